@@ -1,0 +1,34 @@
+-- Causal cone.
+use Prim.Native.Nat.{ℕ, _≤_, _<_}
+use mathlib.Core.Path.{_≡_}
+use mathlib.Core.Logic.{_≢_}
+use mathlib.Core.Bool.{Bool, _&&_}
+use mathlib.Core.List.{List}
+use lib.Dec.{eqb, ltb}
+use Rattle.model.specs.Trace.{Trace, _∈_, read, acquire, release, threadOf, kindOf, objectOf, does, nearest, numbers}
+use Rattle.model.specs.Observed.{observed}
+
+-- j is an earlier event of k's thread
+pub record Earlier (t : Trace) (j k : ℕ) : Type 0 where
+  pub first : 1 ≤ j
+  pub less : j < k
+  pub thread : threadOf t j ≡ threadOf t k
+
+-- matching release of the acquire k: the first release of its lock by its thread after it; 0 where there is none
+unfoldable pub givesBack : Trace → ℕ → ℕ → Bool
+givesBack t k j = ltb k j && (does t release (objectOf t k) j && eqb (threadOf t j) (threadOf t k))
+
+unfoldable pub matching : Trace → ℕ → ℕ
+matching t k = nearest (λ j. givesBack t k j) (numbers t)
+
+-- k is by a thread that is none of the roots'
+abbrev pub Outside : Trace → List ℕ → ℕ → Type 0
+Outside t R k = (r : ℕ) → r ∈ R → threadOf t r ≢ threadOf t k
+
+-- Causal cone of the roots R (of a pair: a and b): the least set with the rules (i) to (iv).
+-- The threads of the roots are exempt from rule (iv).
+pub data InCone (t : Trace) (R : List ℕ) : ℕ → Type 0 where
+  root : {k r : ℕ} → r ∈ R → Earlier t k r → InCone t R k
+  earlier : {j k : ℕ} → InCone t R k → Earlier t j k → InCone t R j
+  observes : {k w : ℕ} → InCone t R k → kindOf t k ≡ read → observed t k ≡ w → w ≢ 0 → InCone t R w
+  closes : {k r : ℕ} → InCone t R k → kindOf t k ≡ acquire → Outside t R k → matching t k ≡ r → r ≢ 0 → InCone t R r

@@ -1,0 +1,95 @@
+-- The paper's worked examples P to X, with what its rules say of them.
+use Prim.Native.Nat.{ℕ}
+use mathlib.Core.List.{List, [], _∷_}
+use Rattle.model.specs.Trace.{Trace, Event, read, write, acquire, release}
+use Rattle.model.specs.Listing.{Race}
+
+-- a list proposed for (a, b) and the check's answer, 0 for yes
+pub record Proposal : Type 0 where
+  pub lower : ℕ
+  pub higher : ℕ
+  pub list : List ℕ
+  pub answer : ℕ
+
+pub record Example : Type 0 where
+  pub trace : Trace
+  pub threadCount : ℕ
+  pub races : List Race
+  pub proposals : List Proposal
+
+-- events by thread c
+abbrev r : ℕ → ℕ → Event
+r c x = record { thread = c; kind = read; object = x }
+
+abbrev w : ℕ → ℕ → Event
+w c x = record { thread = c; kind = write; object = x }
+
+abbrev acq : ℕ → ℕ → Event
+acq c x = record { thread = c; kind = acquire; object = x }
+
+abbrev rel : ℕ → ℕ → Event
+rel c x = record { thread = c; kind = release; object = x }
+
+abbrev race : ℕ → ℕ → List ℕ → Race
+race a b ρ = record { lower = a; higher = b; witness = ρ }
+
+abbrev pub proposal : ℕ → ℕ → List ℕ → ℕ → Proposal
+proposal a b l n = record { lower = a; higher = b; list = l; answer = n }
+
+-- cells x = 0, y = 1, z = 2; locks l = 0, m = 1
+abbrev pub examples : List Example
+examples =
+    -- P
+    record { trace = []; threadCount = 0; races = []; proposals = [] }
+    -- Q
+    ∷ record {
+      trace = w 0 1 ∷ acq 0 0 ∷ r 0 0 ∷ rel 0 0 ∷ acq 1 0 ∷ r 1 0 ∷ rel 1 0 ∷ r 1 1 ∷ [];
+      threadCount = 2;
+      races = race 1 8 (5 ∷ 6 ∷ 7 ∷ []) ∷ [];
+      proposals = [];
+    }
+    -- R
+    ∷ record {
+      trace = acq 0 0 ∷ r 0 0 ∷ w 0 0 ∷ rel 0 0 ∷ acq 1 0 ∷ r 1 0 ∷ w 1 0 ∷ rel 1 0 ∷ [];
+      threadCount = 2;
+      races = [];
+      proposals = [];
+    }
+    -- S
+    ∷ record {
+      trace = w 0 1 ∷ acq 0 0 ∷ w 0 0 ∷ rel 0 0 ∷ acq 1 0 ∷ r 1 1 ∷ r 1 0 ∷ rel 1 0 ∷ [];
+      threadCount = 2;
+      races = race 1 6 (5 ∷ []) ∷ [];
+      proposals = [];
+    }
+    -- T: S with 6 and 7 exchanged
+    ∷ record {
+      trace = w 0 1 ∷ acq 0 0 ∷ w 0 0 ∷ rel 0 0 ∷ acq 1 0 ∷ r 1 0 ∷ r 1 1 ∷ rel 1 0 ∷ [];
+      threadCount = 2;
+      races = [];
+      proposals = [];
+    }
+    -- U
+    ∷ record {
+      trace = r 0 0 ∷ w 0 2 ∷ w 1 0 ∷ w 1 2 ∷ [];
+      threadCount = 2;
+      races = race 1 3 [] ∷ race 2 4 (1 ∷ 3 ∷ []) ∷ [];
+      proposals = proposal 2 4 (3 ∷ 1 ∷ []) 23 ∷ [];
+    }
+    -- V
+    ∷ record { trace = w 0 0 ∷ r 1 0 ∷ []; threadCount = 2; races = race 1 2 [] ∷ []; proposals = [] }
+    -- W
+    ∷ record {
+      trace = w 0 0 ∷ acq 2 0 ∷ w 2 1 ∷ r 2 0 ∷ rel 2 0 ∷ r 1 1 ∷ w 1 0 ∷ [];
+      threadCount = 3;
+      races = race 1 4 (2 ∷ 3 ∷ []) ∷ race 3 6 (2 ∷ []) ∷ race 4 7 (2 ∷ 3 ∷ 6 ∷ []) ∷ [];
+      proposals = proposal 1 7 (2 ∷ 3 ∷ 6 ∷ []) 0 ∷ [];
+    }
+    -- X
+    ∷ record {
+      trace = acq 2 1 ∷ w 2 1 ∷ r 0 1 ∷ w 0 0 ∷ acq 1 0 ∷ r 1 0 ∷ rel 1 0 ∷ acq 2 0 ∷ rel 2 0 ∷ rel 2 1 ∷ [];
+      threadCount = 3;
+      races = race 2 3 (1 ∷ []) ∷ [];
+      proposals = [];
+    }
+    ∷ []

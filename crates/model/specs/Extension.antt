@@ -1,0 +1,17 @@
+-- Extensions (the paper's lengthenings).
+use Prim.Native.Nat.{ℕ}
+use mathlib.Core.Path.{_≡_}
+use mathlib.Core.List.{_++_}
+use Rattle.model.specs.Trace.{Trace}
+use Rattle.model.specs.Good.{Good}
+use Rattle.model.specs.Reordering.{Predictable}
+
+-- t′ extends t: the same events under the same numbers, then none or more after them, well-formed and within every limit
+pub record Extension (t t′ : Trace) : Type 0 where
+  pub added : Trace
+  pub same : t′ ≡ t ++ added
+  pub good : Good t′
+
+-- some correct reordering, of the trace or of an extension, brings both accesses next
+abbrev pub PredictableInExtension : Trace → ℕ → ℕ → Type 0
+PredictableInExtension t a b = (t′ : Trace) × Extension t t′ × Predictable t′ a b

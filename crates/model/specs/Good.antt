@@ -1,0 +1,45 @@
+-- Lock state, well-formed and good traces, and the limits.
+use Prim.Native.Nat.{ℕ, suc, _≤_}
+use mathlib.Core.Path.{_≡_}
+use mathlib.Core.Bool.{cond}
+use mathlib.Core.List.{List, [], _∷_}
+use lib.ListN.{length}
+use Rattle.model.specs.Trace.{Trace, Valid, read, acquire, release, threadOf, kindOf, objectOf, does, before}
+
+-- who holds lock x after a history: 0 for nobody, suc c for thread c
+abbrev pub holder : Trace → ℕ → List ℕ → ℕ
+holder t x [] = 0
+holder t x (k ∷ h) = cond (does t acquire x k) (suc (threadOf t k)) (cond (does t release x k) 0 (holder t x h))
+
+-- after a history event k may acquire its lock: nobody holds it; or release it: its thread holds it
+abbrev pub Free : Trace → List ℕ → ℕ → Type 0
+Free t h k = holder t (objectOf t k) h ≡ 0
+
+abbrev pub Held : Trace → List ℕ → ℕ → Type 0
+Held t h k = holder t (objectOf t k) h ≡ suc (threadOf t k)
+
+-- well-formed: an acquire takes a lock that nobody holds, the taker included; a release is by the holder
+pub record WellFormed (t : Trace) : Type 0 where
+  pub taken-free : (k : ℕ) → Valid t k → kindOf t k ≡ acquire → Free t (before k) k
+  pub given-back : (k : ℕ) → Valid t k → kindOf t k ≡ release → Held t (before k) k
+
+-- the limits
+abbrev pub maxEvents : ℕ
+maxEvents = 512
+
+abbrev pub maxThread : ℕ
+maxThread = 15
+
+abbrev pub maxObject : ℕ
+maxObject = 255
+
+abbrev pub KnownKind : ℕ → Type 0
+KnownKind c = (read ≤ c) × (c ≤ release)
+
+-- a good trace
+pub record Good (t : Trace) : Type 0 where
+  pub size : length t ≤ maxEvents
+  pub kinds : (k : ℕ) → Valid t k → KnownKind (kindOf t k)
+  pub thread-limit : (k : ℕ) → Valid t k → threadOf t k ≤ maxThread
+  pub object-limit : (k : ℕ) → Valid t k → objectOf t k ≤ maxObject
+  pub well-formed : WellFormed t

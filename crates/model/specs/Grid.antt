@@ -1,0 +1,94 @@
+-- The executable decision, second part: the search on the grid.
+-- A candidate is a merge of two increasing lists, P (the moved thread's events of the cone) and Q (the others'), so a path through
+-- the places (i, j), where i events of P and j of Q were passed. Whether an event may come next depends on the place alone.
+use Prim.Native.Nat.{ℕ, zero, suc}
+use mathlib.Core.Path.{_≡_}
+use mathlib.Core.Bool.{Bool, true, false, cond, _&&_, _||_, not}
+use mathlib.Core.Option.{Option, none, some}
+use mathlib.Core.List.{List, [], _∷_, reverse}
+use lib.ListN.{length, getD, take, drop}
+use lib.Dec.{eqb, ltb}
+use Rattle.model.specs.Trace.{Trace, read, write, acquire, threadOf, kindOf, objectOf, does, listed, only, own, is, but}
+use Rattle.model.specs.Observed.{lastWrite, observed}
+use Rattle.model.specs.Check.{isSeen, isFree}
+
+-- the threads of one of the two lists: m alone (true), or every other (false)
+abbrev pub side : ℕ → Bool → ℕ → Bool
+side m true = is m
+side m false = but m
+
+-- the read k observed a write of the list that is not the list b; it observed none of a history
+unfoldable pub sawOther : Trace → ℕ → Bool → ℕ → Bool
+sawOther t m b k = not (eqb (observed t k) 0) && side m (not b) (threadOf t (observed t k))
+
+unfoldable pub sawNone : Trace → List ℕ → ℕ → Bool
+sawNone t h k = not (listed (observed t k) h)
+
+-- in a list, every read of x before the next write of x passes
+abbrev pub pendingPass : Trace → ℕ → (ℕ → Bool) → List ℕ → Bool
+pendingPass t x p [] = true
+pendingPass t x p (k ∷ l) = cond (does t write x k) true ((not (does t read x k) || p k) && pendingPass t x p l)
+
+-- Event k of the list b may come at a place: hs and ho are what was passed of its own list and of the other, latest first;
+-- rs and ro are what is left of them after k.
+-- A read of the other list's write finds it the last one passed there.
+unfoldable pub readStep : Trace → ℕ → Bool → List ℕ → ℕ → Bool
+readStep t m b ho k = not (sawOther t m b k) || isSeen t ho k
+
+-- A write comes between no read ahead and its write: those ahead in the other list see this list, those in its own see nothing passed in the other.
+unfoldable pub writeStep : Trace → ℕ → Bool → List ℕ → List ℕ → List ℕ → ℕ → Bool
+writeStep t m b ho rs ro k = pendingPass t (objectOf t k) (λ j. sawOther t m (not b) j) ro && pendingPass t (objectOf t k) (λ j. sawNone t ho j) rs
+
+-- An acquired lock is held in neither list.
+unfoldable pub lockStep : Trace → List ℕ → List ℕ → ℕ → Bool
+lockStep t hs ho k = isFree t hs k && isFree t ho k
+
+unfoldable pub mayStep : Trace → ℕ → Bool → List ℕ → List ℕ → List ℕ → List ℕ → ℕ → Bool
+mayStep t m b hs ho rs ro k =
+    cond (eqb (kindOf t k) read) (readStep t m b ho k)
+    (cond (eqb (kindOf t k) write) (writeStep t m b ho rs ro k)
+    (cond (eqb (kindOf t k) acquire) (lockStep t hs ho k) true))
+
+-- ---- the search
+
+-- what was passed of a list at place i, latest first
+abbrev pub passed : List ℕ → ℕ → List ℕ
+passed l i = reverse (take i l)
+
+-- event i of the list b, l, may come where j events of the other list, o, were passed
+unfoldable pub stepAt : Trace → ℕ → Bool → List ℕ → List ℕ → ℕ → ℕ → Bool
+stepAt t m b l o i j = ltb i (length l) && mayStep t m b (passed l i) (passed o j) (drop (suc i) l) (drop j o) (getD l i 0)
+
+-- k and then what was found, where k may come
+abbrev pub after : Bool → ℕ → Option (List ℕ) → Option (List ℕ)
+after false k o = none
+after true k none = none
+after true k (some ρ) = some (k ∷ ρ)
+
+abbrev pub orElse : Option (List ℕ) → Option (List ℕ) → Option (List ℕ)
+orElse none o = o
+orElse (some ρ) o = some ρ
+
+-- the path from the place (i, j) to the end, f events away, that takes Q's event wherever a path to the end remains
+unfoldable pub path : Trace → ℕ → List ℕ → List ℕ → ℕ → ℕ → ℕ → Option (List ℕ)
+unfolding stepAt
+path t m P Q zero i j = some []
+path t m P Q (suc f) i j =
+    let x = path t m P Q f i (suc j) in
+    let y = path t m P Q f (suc i) j in
+    let q = after (stepAt t m false Q P j i) (getD Q j 0) x in
+    let p = after (stepAt t m true P Q i j) (getD P i 0) y in
+    orElse q p
+
+-- ---- the tests along a merge
+
+-- the test of event k after the history h of a merge, where τ is left after it
+unfoldable pub stepIn : Trace → ℕ → List ℕ → ℕ → List ℕ → Bool
+stepIn t m h k τ =
+    let b = is m (threadOf t k) in
+    mayStep t m b (only t (side m b) h) (only t (side m (not b)) h) (only t (side m b) τ) (only t (side m (not b)) τ) k
+
+-- every step of a merge passes its test
+abbrev pub Passes : Trace → ℕ → List ℕ → List ℕ → Type 0
+Passes t m h [] = Unit {0}
+Passes t m h (k ∷ τ) = (stepIn t m h k τ ≡ true) × Passes t m (k ∷ h) τ

@@ -1,0 +1,15 @@
+pub mod Trace
+pub mod Observed
+pub mod Good
+pub mod Reordering
+pub mod Cone
+pub mod Race
+pub mod Extension
+pub mod Check
+pub mod Listing
+pub mod Refusals
+pub mod Rounds
+pub mod Grid
+pub mod Decision
+pub mod StaysTrue
+pub mod Examples

@@ -1,0 +1,69 @@
+-- Correct reordering, enabled events, and the lists that bring two events next.
+use Prim.Native.Nat.{ℕ}
+use mathlib.Core.Path.{_≡_}
+use mathlib.Core.Logic.{_≢_}
+use mathlib.Core.Bool.{true}
+use mathlib.Core.List.{List, [], _∷_, _++_, reverse}
+use Rattle.model.specs.Trace.{Trace, Valid, _∈_, read, write, acquire, threadOf, kindOf, objectOf, does, own, before, numbers}
+use Rattle.model.specs.Observed.{lastWrite, observed}
+use Rattle.model.specs.Good.{Free}
+
+-- ---- in the paper's words
+
+-- k stands in the list ρ, with the list σ before it
+abbrev pub StandsAfter : List ℕ → List ℕ → ℕ → Type 0
+StandsAfter ρ σ k = (τ : List ℕ) × (ρ ≡ σ ++ (k ∷ τ))
+
+pub record CorrectReordering (t : Trace) (ρ : List ℕ) : Type 0 where
+  -- a list of events
+  pub events : (k : ℕ) → k ∈ ρ → Valid t k
+  -- none twice
+  pub once : (σ : List ℕ) (k : ℕ) → StandsAfter ρ σ k → ¬ (k ∈ σ)
+  -- each thread's events in it are the beginning of that thread's events, in order
+  pub beginnings : (c : ℕ) → (rest : List ℕ) × (own t c (numbers t) ≡ own t c ρ ++ rest)
+  -- no lock is acquired while held
+  pub locks : (σ : List ℕ) (k : ℕ) → StandsAfter ρ σ k → kindOf t k ≡ acquire → Free t (reverse σ) k
+  -- each read sees in the list the write it observed
+  pub reads : (σ : List ℕ) (k : ℕ) → StandsAfter ρ σ k → kindOf t k ≡ read → observed t k ≢ 0 → lastWrite t (objectOf t k) (reverse σ) ≡ observed t k
+  -- or, if it saw the start, no write to its cell stands before it in the list
+  pub start-reads : (σ : List ℕ) (k : ℕ) → StandsAfter ρ σ k → kindOf t k ≡ read → observed t k ≡ 0 → (j : ℕ) → j ∈ σ → ¬ (does t write (objectOf t k) j ≡ true)
+
+-- ---- event by event: the definition that everything else uses
+
+-- enabled after a history: k is the next event of its thread, that is,
+-- the events of its thread in the history are those before k in the trace, in order (so k is not in it)
+pub record Enabled (t : Trace) (h : List ℕ) (k : ℕ) : Type 0 where
+  pub valid : Valid t k
+  pub next : own t (threadOf t k) h ≡ own t (threadOf t k) (before k)
+
+-- the read k sees after a history the write it observed, or no write where it saw the start
+abbrev pub Sees : Trace → List ℕ → ℕ → Type 0
+Sees t h k = lastWrite t (objectOf t k) h ≡ observed t k
+
+-- k may come after the history h
+pub record Step (t : Trace) (h : List ℕ) (k : ℕ) : Type 0 where
+  pub enabled : Enabled t h k
+  pub sees : kindOf t k ≡ read → Sees t h k
+  pub free : kindOf t k ≡ acquire → Free t h k
+
+-- correct reordering: each event may come after what stands before it
+abbrev pub CorrectFrom : Trace → List ℕ → List ℕ → Type 0
+CorrectFrom t h [] = Unit {0}
+CorrectFrom t h (k ∷ ρ) = Step t h k × CorrectFrom t (k ∷ h) ρ
+
+abbrev pub Correct : Trace → List ℕ → Type 0
+Correct t ρ = CorrectFrom t [] ρ
+
+-- enabled after the whole list. An enabled read need not see its old write.
+abbrev pub EnabledAfter : Trace → List ℕ → ℕ → Type 0
+EnabledAfter t ρ k = Enabled t (reverse ρ) k
+
+-- ρ is a correct reordering that brings both a and b next
+pub record BringsBoth (t : Trace) (ρ : List ℕ) (a b : ℕ) : Type 0 where
+  pub correct : Correct t ρ
+  pub first : EnabledAfter t ρ a
+  pub second : EnabledAfter t ρ b
+
+-- predictable race: there is such a reordering
+abbrev pub Predictable : Trace → ℕ → ℕ → Type 0
+Predictable t a b = (ρ : List ℕ) × BringsBoth t ρ a b

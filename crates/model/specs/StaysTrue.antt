@@ -1,0 +1,31 @@
+-- What demand 3 claims of a trace t, an extension t′ of it and a conflicting pair (a, b) of t.
+use Prim.Native.Nat.{ℕ}
+use mathlib.Core.Path.{_≡_}
+use mathlib.Core.Logic.{_↔_}
+use mathlib.Core.Option.{some}
+use mathlib.Core.List.{List}
+use Rattle.model.specs.Trace.{Trace, TwoThreads}
+use Rattle.model.specs.Reordering.{BringsBoth}
+use Rattle.model.specs.Race.{Reported, Witness}
+use Rattle.model.specs.Extension.{PredictableInExtension}
+use Rattle.model.specs.Check.{check}
+use Rattle.model.specs.Decision.{witness}
+
+-- at most two threads have an event in t
+pub record ExactAndSteady (t t′ : Trace) (a b : ℕ) : Type 0 where
+  -- reported exactly when some correct reordering, of the trace or of any of its extensions, brings both accesses next
+  pub exact : Reported t a b ↔ PredictableInExtension t a b
+  -- the same verdict and the same witness
+  pub same-verdict : Reported t a b ↔ Reported t′ a b
+  pub same-witness : (ρ : List ℕ) → Witness t a b ρ ↔ Witness t′ a b ρ
+  -- the same of the answers to question 3
+  pub exact-answer : ((ρ : List ℕ) × (witness t a b ≡ some ρ)) ↔ PredictableInExtension t a b
+  pub same-answer : witness t′ a b ≡ witness t a b
+
+-- any number of threads
+pub record StaysTrue (t t′ : Trace) (a b : ℕ) : Type 0 where
+  pub two-threads : TwoThreads t → ExactAndSteady t t′ a b
+  -- a witness of t is in t′ a correct reordering that brings both accesses next, and the check says yes to it there
+  pub witness-stays : (ρ : List ℕ) → Witness t a b ρ → BringsBoth t′ ρ a b × (check t′ a b ρ ≡ 0)
+  -- the same of the answer to question 3
+  pub answer-stays : (ρ : List ℕ) → witness t a b ≡ some ρ → BringsBoth t′ ρ a b × (check t′ a b ρ ≡ 0)

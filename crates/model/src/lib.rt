@@ -1,0 +1,1 @@
+// The rules and their theorems are in specs/ and proofs/; this crate has no code.
