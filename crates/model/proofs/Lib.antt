@@ -1,1 +1,10 @@
+pub mod Tests
+pub mod Lists
+pub mod Histories
+pub mod RuleByRule
+pub mod Locks
+pub mod Agree
+pub mod Threads
+pub mod OneShown
+pub mod TwoThreads
 pub mod ExamplesHold

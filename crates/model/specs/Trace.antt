@@ -117,5 +117,11 @@ unfoldable pub threads : Trace → List ℕ
 threads [] = []
 threads (e ∷ t) = put (not (listed (e .thread) (threads t))) (e .thread) (threads t)
 
+-- no number stands twice
+abbrev pub Distinct : List ℕ → Type 0
+Distinct [] = Unit {0}
+Distinct (x ∷ l) = ¬ (x ∈ l) × Distinct l
+
+-- a trace by at most two threads
 abbrev pub TwoThreads : Trace → Type 0
 TwoThreads t = length (threads t) ≤ 2

@@ -1,0 +1,115 @@
+-- Two traces with the same first events say the same of lists of those; a trace and an extension are such.
+use Prim.Native.Nat.{ℕ, zero, suc, _≤_}
+use native.Mathlib.Omega.{arith}
+use mathlib.Core.Path.{_≡_, refl, sym, _∙_, ap, ap₂}
+use mathlib.Core.Bool.{Bool, cond, _&&_}
+use mathlib.Core.List.{List, [], _∷_, _++_, reverse, reverse-reverse, List·Memᴰ·head, List·Memᴰ·tail}
+use lib.ListN.{length, length-append, List·getD-append}
+use lib.Dec.{eqb}
+use Rattle.model.specs.Trace.{Trace, Event, Valid, _∈_, write, acquire, release, noEvent, at, threadOf, kindOf, objectOf, does, before, put, only, is}
+use Rattle.model.specs.Observed.{lastWrite, observed}
+use Rattle.model.specs.Good.{holder, Free}
+use Rattle.model.specs.Reordering.{Enabled, EnabledAfter, Step, Correct}
+use Rattle.model.specs.Extension.{Extension}
+use Rattle.model.proofs.Lists.{mem-before}
+use Rattle.model.proofs.Histories.{Legal, to-legal, of-legal, legal-valid}
+
+-- the traces agree on the events up to n
+abbrev pub Agree : Trace → Trace → ℕ → Type 0
+Agree u v n = (k : ℕ) → k ≤ n → at u k ≡ at v k
+
+abbrev pub Within : ℕ → List ℕ → Type 0
+Within n h = (k : ℕ) → k ∈ h → k ≤ n
+
+within-before : (n k : ℕ) → k ≤ n → Within n (before k)
+within-before n k p j m = let z = mem-before k j m in omega arith
+
+module _ (u v : Trace) (n : ℕ) (same : Agree u v n) where
+  pub same-thread : (k : ℕ) → k ≤ n → threadOf u k ≡ threadOf v k
+  same-thread k p = ap (λ (e : Event). e .thread) (same k p)
+
+  pub same-kind : (k : ℕ) → k ≤ n → kindOf u k ≡ kindOf v k
+  same-kind k p = ap (λ (e : Event). e .kind) (same k p)
+
+  same-object : (k : ℕ) → k ≤ n → objectOf u k ≡ objectOf v k
+  same-object k p = ap (λ (e : Event). e .object) (same k p)
+
+  does-agree : (c x k : ℕ) → k ≤ n → does u c x k ≡ does v c x k
+  unfolding does
+  does-agree c x k p = ap (λ (e : Event). eqb (e .kind) c && eqb (e .object) x) (same k p)
+
+  pub only-agree : (s : ℕ → Bool) (h : List ℕ) → Within n h → only u s h ≡ only v s h
+  only-agree s [] w = refl
+  only-agree s (k ∷ h) w =
+      let ih = only-agree s h (λ j m. w j (List·Memᴰ·tail m)) in
+      ap₂ (λ (e : Event) (l : List ℕ). put (s (e .thread)) k l) (same k (w k (List·Memᴰ·head refl))) ih
+
+  lastWrite-agree : (x : ℕ) (h : List ℕ) → Within n h → lastWrite u x h ≡ lastWrite v x h
+  lastWrite-agree x [] w = refl
+  lastWrite-agree x (k ∷ h) w =
+      let ih = lastWrite-agree x h (λ j m. w j (List·Memᴰ·tail m)) in rw (does-agree write x k (w k (List·Memᴰ·head refl)), ih)
+
+  holder-agree : (x : ℕ) (h : List ℕ) → Within n h → holder u x h ≡ holder v x h
+  holder-agree x [] w = refl
+  holder-agree x (k ∷ h) w =
+      let p = w k (List·Memᴰ·head refl) in
+      let ih = holder-agree x h (λ j m. w j (List·Memᴰ·tail m)) in
+      rw (does-agree acquire x k p, does-agree release x k p)
+      (ap₂ (λ (e : Event) (o : ℕ). cond (does v acquire x k) (suc (e .thread)) (cond (does v release x k) 0 o)) (same k p) ih)
+
+  pub observed-agree : (k : ℕ) → k ≤ n → observed u k ≡ observed v k
+  unfolding observed
+  observed-agree k p = lastWrite-agree (objectOf u k) (before k) (within-before n k p) ∙ ap (λ (x : ℕ). lastWrite v x (before k)) (same-object k p)
+
+  pub enabled-agree : (h : List ℕ) (k : ℕ) → Within n h → k ≤ n → Valid v k → Enabled u h k → Enabled v h k
+  enabled-agree h k w p q st = record {
+    valid = q;
+    next =
+        let c = threadOf v k in
+        let e = same-thread k p in
+        sym (only-agree (is c) h w) ∙ (rw e at (st .next)) ∙ only-agree (is c) (before k) (within-before n k p);
+  }
+
+  free-agree : (h : List ℕ) (k : ℕ) → Within n h → k ≤ n → Free u h k → Free v h k
+  free-agree h k w p f = sym (holder-agree (objectOf v k) h w) ∙ ap (λ (x : ℕ). holder u x h) (sym (same-object k p)) ∙ f
+
+  step-agree : (h : List ℕ) (k : ℕ) → Within n h → k ≤ n → Valid v k → Step u h k → Step v h k
+  step-agree h k w p q st = record {
+    enabled = enabled-agree h k w p q (st .enabled);
+    sees = λ r. sym (lastWrite-agree (objectOf v k) h w) ∙ ap (λ (x : ℕ). lastWrite u x h) (sym (same-object k p)) ∙ st .sees (same-kind k p ∙ r) ∙ observed-agree k p;
+    free = λ r. free-agree h k w p (st .free (same-kind k p ∙ r));
+  }
+
+  pub legal-agree : (h : List ℕ) → Within n h → ((k : ℕ) → k ∈ h → Valid v k) → Legal u h → Legal v h
+  legal-agree [] w q l = tt
+  legal-agree (k ∷ h) w q l =
+      let w′ : Within n h = λ j m. w j (List·Memᴰ·tail m) in
+      (step-agree h k w′ (w k (List·Memᴰ·head refl)) (q k (List·Memᴰ·head refl)) (l .0), legal-agree h w′ (λ j m. q j (List·Memᴰ·tail m)) (l .1))
+
+-- ---- a trace and an extension of it
+
+module _ (t t′ : Trace) (long : Extension t t′) where
+  at-append : (added : Trace) (k : ℕ) → k ≤ length t → at (t ++ added) k ≡ at t k
+  at-append added zero p = refl
+  at-append added (suc k) p = List·getD-append t added noEvent k p
+
+  pub extension-agree : Agree t t′ (length t)
+  extension-agree k p = rw (long .same) (sym (at-append (long .added) k p))
+
+  pub extended-valid : (k : ℕ) → Valid t k → Valid t′ k
+  extended-valid k v =
+      let z : length t ≤ length t′ = rw (long .same) (let y = length-append t (long .added) in omega arith) in
+      record { positive = v .positive; bounded = let y = v .bounded in omega arith }
+
+  -- a correct reordering stays one, and brings the same events next
+  pub extended-correct : (ρ : List ℕ) → Correct t ρ → Correct t′ ρ
+  extended-correct ρ c =
+      let l = to-legal t ρ c in
+      let v : (k : ℕ) → k ∈ reverse ρ → Valid t k = legal-valid t (reverse ρ) l in
+      rw (reverse-reverse ρ) at (of-legal t′ (reverse ρ)
+      (legal-agree t t′ (length t) extension-agree (reverse ρ) (λ k m. v k m .bounded) (λ k m. extended-valid k (v k m)) l))
+
+  pub extended-next : (ρ : List ℕ) → Correct t ρ → (k : ℕ) → EnabledAfter t ρ k → EnabledAfter t′ ρ k
+  extended-next ρ c k e =
+      enabled-agree t t′ (length t) extension-agree (reverse ρ) k
+      (λ j m. legal-valid t (reverse ρ) (to-legal t ρ c) j m .bounded) (e .valid .bounded) (extended-valid k (e .valid)) e

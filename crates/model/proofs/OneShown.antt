@@ -1,0 +1,41 @@
+-- The one shown is unique, and what is shown brings both accesses next.
+use Prim.Native.Nat.{ℕ}
+use mathlib.Core.Path.{_≡_, refl, sym, _∙_}
+use mathlib.Core.Logic.{_≢_, _⊎_, inl, inr, ⊎-elim}
+use mathlib.Core.List.{List, [], _∷_, reverse}
+use Rattle.model.specs.Trace.{Trace, Valid, _∈_, threadOf}
+use Rattle.model.specs.Reordering.{EnabledAfter, BringsBoth}
+use Rattle.model.specs.Cone.{root}
+use Rattle.model.specs.Race.{Candidate, Preferred, Shown, Witness, Conflicting, pair}
+use Rattle.model.proofs.Lists.{mem-reverse, reverse-mem}
+use Rattle.model.proofs.Histories.{to-legal, enabled-by}
+use Rattle.model.proofs.Threads.{Apart, conflicting-apart, in-pair-a, in-pair-b}
+
+not-both-ways : (t : Trace) (m : ℕ) (ρ τ : List ℕ) → Preferred t m ρ τ → Preferred t m τ ρ → ⊥
+not-both-ways t m [] τ f g = f
+not-both-ways t m (x ∷ ρ) [] f g = f
+not-both-ways t m (x ∷ ρ) (y ∷ τ) f g =
+    ⊎-elim
+    (λ p. ⊎-elim (λ q. not-both-ways t m ρ τ (p .1) (q .1)) (λ q. q .0 (rw (p .0) at (q .1))) g)
+    (λ p. ⊎-elim (λ q. p .0 (rw (q .0) at (p .1))) (λ q. p .0 (q .1)) g) f
+
+pub shown-unique : (t : Trace) (R : List ℕ) (m : ℕ) (ρ τ : List ℕ) → Shown t R m ρ → Shown t R m τ → ρ ≡ τ
+shown-unique t R m ρ τ p q =
+    ⊎-elim (λ e. e) (λ f. ⊎-elim (λ e. sym e) (λ g. absurd (not-both-ways t m ρ τ f g)) (q .chosen ρ (p .candidate))) (p .chosen τ (q .candidate))
+
+-- a candidate brings each root next
+pub candidate-next : (t : Trace) (R : List ℕ) (m : ℕ) (ρ : List ℕ) → Candidate t R m ρ → (r : ℕ) → r ∈ R → Valid t r → EnabledAfter t ρ r
+candidate-next t R m ρ c r x v =
+    enabled-by t (reverse ρ) (to-legal t ρ (c .correct)) r v
+    (λ n. c .roots-out r x (c .members r .0 (mem-reverse r ρ n)))
+    (λ k p q e. reverse-mem (c .members k .1 (root x (record { first = p; less = q; thread = e }))))
+
+pub candidate-brings : (t : Trace) (a b m : ℕ) (ρ : List ℕ) → Apart t a b → Candidate t (pair a b) m ρ → BringsBoth t ρ a b
+candidate-brings t a b m ρ c d = record {
+  correct = d .correct;
+  first = candidate-next t (pair a b) m ρ d a (in-pair-a a b) (c .first);
+  second = candidate-next t (pair a b) m ρ d b (in-pair-b a b) (c .second);
+}
+
+pub witness-brings-both : (t : Trace) (a b : ℕ) (ρ : List ℕ) → Conflicting t a b → Witness t a b ρ → BringsBoth t ρ a b
+witness-brings-both t a b ρ c s = candidate-brings t a b (threadOf t a) ρ (conflicting-apart c) (s .candidate)

@@ -1,0 +1,84 @@
+-- Going by cases, and what the definitions' tests say.
+use Prim.Native.Nat.{ℕ}
+use mathlib.Core.Path.{_≡_, refl, sym, _∙_}
+use mathlib.Core.Logic.{_≢_, ⊎-elim}
+use mathlib.Core.Bool.{Bool, true, false, _&&_, _||_, not, true≢false, false≢true}
+use mathlib.Core.List.{List, _∷_, List·Memᴰ, List·Memᴰ·cases-cons}
+use lib.Dec.{eqb}
+use borrow.Author.Tests.{eqb-true, eq-eqb, ne-eqb}
+use Rattle.model.specs.Trace.{Trace, kindOf, objectOf, does, is, but}
+
+pub by-cases {ℓ} : {G : Type ℓ} (b : Bool) → (b ≡ true → G) → (b ≡ false → G) → G
+by-cases true f g = f refl
+by-cases false f g = g refl
+
+pub in-cons {ℓ} : {G : Type ℓ} {A : Type 0} {k j : A} {l : List A} → List·Memᴰ k (j ∷ l) → (k ≡ j → G) → (List·Memᴰ k l → G) → G
+in-cons m f g = ⊎-elim f g (List·Memᴰ·cases-cons m)
+
+pub clash {ℓ} : {G : Type ℓ} {b : Bool} → b ≡ true → b ≡ false → G
+clash p q = absurd (true≢false (sym p ∙ q))
+
+pub both : (b c : Bool) → b && c ≡ true → (b ≡ true) × (c ≡ true)
+both true c e = (refl, e)
+both false c e = absurd (false≢true e)
+
+pub true-both : {b c : Bool} → b ≡ true → c ≡ true → b && c ≡ true
+true-both p q = rw (p, q)
+
+pub or-right : (b : Bool) {c : Bool} → c ≡ true → b || c ≡ true
+or-right true e = refl
+or-right false e = e
+
+pub not-both : (b c : Bool) → (b && not c) ≡ false → b ≡ true → c ≡ true
+not-both true true e p = refl
+not-both true false e p = absurd (true≢false e)
+not-both false c e p = absurd (false≢true p)
+
+pub both-not : (b c : Bool) → (b ≡ true → c ≡ true) → (b && not c) ≡ false
+both-not true c f = rw (f refl)
+both-not false c f = refl
+
+-- ---- threads
+
+pub is-true : (c d : ℕ) → is c d ≡ true → d ≡ c
+unfolding is
+is-true c d e = eqb-true d c e
+
+pub true-is : (c d : ℕ) → d ≡ c → is c d ≡ true
+unfolding is
+true-is c d e = eq-eqb d c e
+
+pub false-is : (c d : ℕ) → d ≢ c → is c d ≡ false
+unfolding is
+false-is c d ne = ne-eqb d c ne
+
+pub is-false : (c d : ℕ) → is c d ≡ false → d ≢ c
+is-false c d e z = clash (true-is c d z) e
+
+pub but-true : (m d : ℕ) → but m d ≡ true → d ≢ m
+unfolding but
+but-true m d e z = let q = true-is m d z in false≢true (rw q at e)
+
+pub true-but : (m d : ℕ) → d ≢ m → but m d ≡ true
+unfolding but
+true-but m d ne = rw (false-is m d ne)
+
+pub false-but : (m d : ℕ) → d ≡ m → but m d ≡ false
+unfolding but
+false-but m d e = rw (true-is m d e)
+
+-- ---- what an event does
+
+module _ (t : Trace) (c x k : ℕ) where
+  pub does-true : does t c x k ≡ true → (kindOf t k ≡ c) × (objectOf t k ≡ x)
+  unfolding does
+  does-true e = let p = both (eqb (kindOf t k) c) (eqb (objectOf t k) x) e in (eqb-true _ _ (p .0), eqb-true _ _ (p .1))
+
+  pub true-does : kindOf t k ≡ c → objectOf t k ≡ x → does t c x k ≡ true
+  unfolding does
+  true-does p q = true-both (eq-eqb _ _ p) (eq-eqb _ _ q)
+
+  -- an event of another kind does not
+  pub false-does : kindOf t k ≢ c → does t c x k ≡ false
+  unfolding does
+  false-does ne = rw (ne-eqb (kindOf t k) c ne)
