@@ -7,4 +7,6 @@ pub mod Agree
 pub mod Threads
 pub mod OneShown
 pub mod TwoThreads
+pub mod Stability
+pub mod CheckExact
 pub mod ExamplesHold
