@@ -9,4 +9,9 @@ pub mod OneShown
 pub mod TwoThreads
 pub mod Stability
 pub mod CheckExact
+pub mod LeastSet
+pub mod ConeExact
+pub mod GridSteps
+pub mod Merges
+pub mod SearchExact
 pub mod ExamplesHold
