@@ -2,6 +2,7 @@
 use Prim.Native.Nat.{ℕ, zero, suc, _≤_}
 use native.Mathlib.Omega.{arith}
 use mathlib.Core.Path.{_≡_, refl, sym, _∙_, ap, ap₂}
+use mathlib.Core.Logic.{inl, inr, ⊎-elim}
 use mathlib.Core.Bool.{Bool, cond, _&&_}
 use mathlib.Core.List.{List, [], _∷_, _++_, reverse, reverse-reverse, List·Memᴰ·head, List·Memᴰ·tail}
 use lib.ListN.{length, length-append, List·getD-append}
@@ -10,6 +11,7 @@ use Rattle.model.specs.Trace.{Trace, Event, Valid, _∈_, write, acquire
 use Rattle.model.specs.Observed.{lastWrite, observed}
 use Rattle.model.specs.Good.{holder, Free}
 use Rattle.model.specs.Reordering.{Enabled, EnabledAfter, Step, Correct}
+use Rattle.model.specs.Race.{Conflicting}
 use Rattle.model.specs.Extension.{Extension}
 use Rattle.model.proofs.Lists.{mem-before}
 use Rattle.model.proofs.Histories.{Legal, to-legal, of-legal, legal-valid}
@@ -113,3 +115,23 @@ module _ (t t′ : Trace) (long : Extension t t′) where
   extended-next ρ c k e =
       enabled-agree t t′ (length t) extension-agree (reverse ρ) k
       (λ j m. legal-valid t (reverse ρ) (to-legal t ρ c) j m .bounded) (e .valid .bounded) (extended-valid k (e .valid)) e
+
+  -- a conflicting pair stays one
+  pub extended-conflicting : (a b : ℕ) → Conflicting t a b → Conflicting t′ a b
+  extended-conflicting a b c =
+      let e : (k : ℕ) → k ≤ length t → at t k ≡ at t′ k = extension-agree in
+      let p = c .first .bounded in
+      let q = c .second .bounded in
+      let ka = same-kind t t′ (length t) e a p in
+      let kb = same-kind t t′ (length t) e b q in record {
+        first = extended-valid a (c .first);
+        second = extended-valid b (c .second);
+        lower = c .lower;
+        apart = λ z. c .apart (same-thread t t′ (length t) e a p ∙ z ∙ sym (same-thread t t′ (length t) e b q));
+        accesses = (
+          ⊎-elim (λ z. inl (sym ka ∙ z)) (λ z. inr (sym ka ∙ z)) (c .accesses .0),
+          ⊎-elim (λ z. inl (sym kb ∙ z)) (λ z. inr (sym kb ∙ z)) (c .accesses .1),
+        );
+        cell = sym (same-object t t′ (length t) e a p) ∙ c .cell ∙ same-object t t′ (length t) e b q;
+        a-write = ⊎-elim (λ z. inl (sym ka ∙ z)) (λ z. inr (sym kb ∙ z)) (c .a-write);
+      }

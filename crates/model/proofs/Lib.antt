@@ -14,4 +14,7 @@ pub mod ConeExact
 pub mod GridSteps
 pub mod Merges
 pub mod SearchExact
+pub mod ListingExact
+pub mod RefusalsExact
+pub mod StaysTrue
 pub mod ExamplesHold

@@ -213,6 +213,13 @@ decreasing-keep p (suc n) =
 pub increasing-reverse : (p : ℕ → Bool) (n : ℕ) → Increasing (reverse (keep p (upTo n)))
 increasing-reverse p n = decreasing-reverse (keep p (upTo n)) [] (decreasing-keep p n) tt (λ x y m z. absurd (List·Memᴰ·not-nil z))
 
+keep-true : (l : List ℕ) → keep (λ k. true) l ≡ l
+keep-true [] = refl
+keep-true (k ∷ l) = ap (λ (r : List ℕ). k ∷ r) (keep-true l)
+
+pub increasing-numbers : (t : Trace) → Increasing (numbers t)
+increasing-numbers t = rw (keep-true (upTo (length t))) at (increasing-reverse (λ k. true) (length t))
+
 pub increasing-keep : (p : ℕ → Bool) (l : List ℕ) → Increasing l → Increasing (keep p l)
 increasing-keep p [] i = tt
 increasing-keep p (x ∷ l) i =

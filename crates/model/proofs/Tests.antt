@@ -1,7 +1,7 @@
 -- Going by cases, and what the definitions' tests say.
 use Prim.Native.Nat.{ℕ}
 use mathlib.Core.Path.{_≡_, refl, sym, _∙_}
-use mathlib.Core.Logic.{_≢_, ⊎-elim}
+use mathlib.Core.Logic.{_≢_, _⊎_, inl, inr, ⊎-elim}
 use mathlib.Core.Bool.{Bool, true, false, _&&_, _||_, not, true≢false, false≢true}
 use mathlib.Core.List.{List, _∷_, List·Memᴰ, List·Memᴰ·cases-cons}
 use lib.Dec.{eqb}
@@ -25,9 +25,16 @@ both false c e = absurd (false≢true e)
 pub true-both : {b c : Bool} → b ≡ true → c ≡ true → b && c ≡ true
 true-both p q = rw (p, q)
 
+pub either-true : (b c : Bool) → b || c ≡ true → (b ≡ true) ⊎ (c ≡ true)
+either-true true c e = inl refl
+either-true false c e = inr e
+
 pub or-right : (b : Bool) {c : Bool} → c ≡ true → b || c ≡ true
 or-right true e = refl
 or-right false e = e
+
+pub true-either : (b c : Bool) → (b ≡ true) ⊎ (c ≡ true) → b || c ≡ true
+true-either b c s = ⊎-elim (λ e. rw e) (λ e. or-right b e) s
 
 pub not-both : (b c : Bool) → (b && not c) ≡ false → b ≡ true → c ≡ true
 not-both true true e p = refl
