@@ -7,7 +7,8 @@ use mathlib.Core.Bool.{Bool, cond, _&&_}
 use mathlib.Core.List.{List, [], _∷_, _++_, reverse, reverse-reverse, List·Memᴰ·head, List·Memᴰ·tail}
 use lib.ListN.{length, length-append, List·getD-append}
 use lib.Dec.{eqb}
-use Rattle.model.specs.Trace.{Trace, Event, Valid, _∈_, write, acquire, release, noEvent, at, threadOf, kindOf, objectOf, does, before, put, only, is}
+use Rattle.model.specs.Trace.{Trace, Event, Valid, write, acquire, release, noEvent, at, threadOf, kindOf, objectOf, does}
+use Rattle.model.specs.Lists.{_∈_, before, put, only, is}
 use Rattle.model.specs.Observed.{lastWrite, observed}
 use Rattle.model.specs.Good.{holder, Free}
 use Rattle.model.specs.Reordering.{Enabled, EnabledAfter, Step, Correct}

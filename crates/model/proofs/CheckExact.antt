@@ -7,10 +7,11 @@ use mathlib.Core.Bool.{Bool, true, false, _&&_, not, false≢true}
 use mathlib.Core.List.{List, [], _∷_, _++_, reverse, reverseAux}
 use lib.ListN.{length}
 use lib.Dec.{eqb, leb}
-use borrow.Author.Tests.{eqb-true, eqb-false, eq-eqb, ne-eqb, leb-true, le-leb, not-true}
-use Rattle.model.specs.Trace.{Trace, Valid, read, acquire, threadOf, kindOf, own, before}
+use borrow.Author.Tests.{eqb-true, eq-eqb, ne-eqb, leb-true, le-leb, not-true}
+use Rattle.model.specs.Trace.{Trace, Valid, read, acquire, threadOf, kindOf}
+use Rattle.model.specs.Lists.{own, before}
 use Rattle.model.specs.Good.{Free}
-use Rattle.model.specs.Reordering.{StandsAfter, Enabled, Sees, Step, Correct, CorrectFrom, EnabledAfter, BringsBoth}
+use Rattle.model.specs.Reordering.{Enabled, Sees, Step, CorrectFrom, EnabledAfter, BringsBoth}
 use Rattle.model.specs.Check.{PlaceFault, no-event, not-next, sees-otherwise, lock-held, CheckAnswer, accepted, first-fault, lower-not-enabled, higher-not-enabled, sameList, isValid, isNext, isSeen, isFree, placeFault, firstOf, faultFrom, isEnabled, check}
 use Rattle.model.proofs.Tests.{by-cases, both, true-both, not-both, both-not}
 

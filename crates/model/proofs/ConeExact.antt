@@ -1,14 +1,15 @@
 -- The computed cone is the least set with the cone's rules.
 use Prim.Native.Nat.{ℕ, _≤_}
 use native.Mathlib.Omega.{arith}
-use mathlib.Core.Path.{_≡_, refl, ap}
+use mathlib.Core.Path.{_≡_, ap}
 use mathlib.Core.Logic.{_≢_, _↔_}
-use mathlib.Core.Bool.{Bool, true, false, _&&_, _||_, not}
+use mathlib.Core.Bool.{Bool, true, false, _&&_, not}
 use mathlib.Core.List.{List, reverse}
 use lib.ListN.{length}
 use lib.Dec.{eqb, ltb}
 use borrow.Author.Tests.{eqb-true, eq-eqb, ltb-true, lt-ltb, not-true}
-use Rattle.model.specs.Trace.{Trace, Valid, _∈_, read, acquire, threadOf, kindOf, numbers, upTo, keep}
+use Rattle.model.specs.Trace.{Trace, Valid, read, acquire, threadOf, kindOf}
+use Rattle.model.specs.Lists.{_∈_, numbers, upTo, keep}
 use Rattle.model.specs.Observed.{observed}
 use Rattle.model.specs.Cone.{InCone, Earlier, Outside, root, earlier, observes, closes, givesBack, matching}
 use Rattle.model.specs.Race.{Increasing}

@@ -1,8 +1,9 @@
 -- The worked examples, proved by one computed test.
 use mathlib.Core.Path.{_≡_, refl}
-use mathlib.Core.List.{List, map}
+use mathlib.Core.List.{map}
 use lib.ListN.{length}
-use Rattle.model.specs.Trace.{does, listed, is, but, threads}
+use Rattle.model.specs.Trace.{does}
+use Rattle.model.specs.Lists.{listed, is, but, threads}
 use Rattle.model.specs.Observed.{observed}
 use Rattle.model.specs.Cone.{givesBack, matching}
 use Rattle.model.specs.Check.{sameList, isValid, isNext, isSeen, isFree, placeFault, faultFrom, isEnabled, check}

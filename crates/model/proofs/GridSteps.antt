@@ -3,17 +3,18 @@ use Prim.Native.Nat.{ℕ}
 use native.Mathlib.Omega.{arith}
 use mathlib.Core.Path.{_≡_, refl, sym, _∙_, ap}
 use mathlib.Core.Logic.{_≢_, _⊎_, inl, inr, ⊎-elim, _↔_}
-use mathlib.Core.Bool.{Bool, true, false, _&&_, _||_, not, false≢true}
+use mathlib.Core.Bool.{Bool, true, false, _&&_, _||_, not}
 use mathlib.Core.List.{List, [], _∷_, List·Memᴰ·head, List·Memᴰ·tail, List·Memᴰ·not-nil, Memᴰ·cast}
 use lib.Dec.{eqb}
 use borrow.Author.Tests.{eqb-true, eqb-false, eq-eqb, ne-eqb, not-true}
-use Rattle.model.specs.Trace.{Trace, _∈_, read, write, acquire, threadOf, kindOf, objectOf, does, listed, only, is}
+use Rattle.model.specs.Trace.{Trace, read, write, acquire, threadOf, kindOf, objectOf, does}
+use Rattle.model.specs.Lists.{_∈_, listed, only, is}
 use Rattle.model.specs.Observed.{lastWrite, observed}
 use Rattle.model.specs.Good.{Free, WellFormed}
 use Rattle.model.specs.Reordering.{Enabled, Sees, Step, Correct, CorrectFrom}
-use Rattle.model.specs.Check.{isSeen, isFree}
+use Rattle.model.specs.Check.{isFree}
 use Rattle.model.specs.Grid.{side, sawOther, sawNone, pendingPass, readStep, writeStep, lockStep, mayStep, stepIn, Passes}
-use Rattle.model.proofs.Tests.{by-cases, in-cons, clash, both, true-both, is-true, true-is, is-false, but-true, true-but, false-but, false-is, does-true, true-does, false-does}
+use Rattle.model.proofs.Tests.{by-cases, in-cons, clash, both, true-both, is-true, is-false, but-true, true-but, false-but, false-is, does-true, true-does, false-does}
 use Rattle.model.proofs.Lists.{mem-only, mem-listed, listed-mem}
 use Rattle.model.proofs.Histories.{Legal, enabled-out, lastWrite-mem, lastWrite-kept}
 use Rattle.model.proofs.Locks.{locked, free-only, free-parts}

@@ -4,11 +4,12 @@ use native.Mathlib.Omega.{arith}
 use mathlib.Core.Path.{_≡_, refl, sym, _∙_, ap}
 use mathlib.Core.Logic.{_≢_, _⊎_}
 use mathlib.Core.Bool.{Bool, true}
-use mathlib.Core.List.{List, [], _∷_, reverse, reverseAux, reverse-reverse, List·Memᴰ·head, List·Memᴰ·tail, List·Memᴰ·not-nil, Memᴰ·cast}
+use mathlib.Core.List.{List, [], _∷_, reverse, reverseAux, reverse-reverse, List·Memᴰ·tail, List·Memᴰ·not-nil, Memᴰ·cast}
 use lib.ListN.{length}
 use lib.Dec.{leb}
 use borrow.Author.Tests.{leb-true, leb-false}
-use Rattle.model.specs.Trace.{Trace, Valid, _∈_, read, write, threadOf, kindOf, objectOf, does, upTo, before, keep, own, is}
+use Rattle.model.specs.Trace.{Trace, Valid, read, write, threadOf, kindOf, objectOf, does}
+use Rattle.model.specs.Lists.{_∈_, upTo, before, keep, own, is}
 use Rattle.model.specs.Observed.{lastWrite, observed}
 use Rattle.model.specs.Reordering.{Enabled, Sees, Step, Correct, CorrectFrom}
 use Rattle.model.specs.Race.{Increasing}

@@ -4,9 +4,9 @@ use native.Mathlib.Omega.{arith}
 use mathlib.Core.Path.{_≡_, refl, ap}
 use mathlib.Core.Logic.{_⊎_, inl, inr, ⊎-elim}
 use mathlib.Core.Bool.{Bool, true}
-use mathlib.Core.List.{List, [], _∷_, List·Memᴰ·head, List·Memᴰ·tail, List·Memᴰ·not-nil}
+use mathlib.Core.List.{List, [], _∷_, List·Memᴰ·not-nil}
 use lib.ListN.{length}
-use Rattle.model.specs.Trace.{_∈_, keep, upTo}
+use Rattle.model.specs.Lists.{_∈_, keep, upTo}
 use Rattle.model.specs.Rounds.{brought, rounds}
 use Rattle.model.proofs.Tests.{by-cases}
 use Rattle.model.proofs.Lists.{mem-keep, keep-mem, any-mem, mem-any, mem-upTo, upTo-mem}

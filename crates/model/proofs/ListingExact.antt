@@ -3,19 +3,20 @@ use Prim.Native.Nat.{ℕ, _<_}
 use native.Mathlib.Omega.{arith}
 use mathlib.Core.Path.{_≡_, refl, sym, _∙_, ap, subst}
 use mathlib.Core.Logic.{_⊎_, inl, inr, ⊎-elim, _↔_}
-use mathlib.Core.Bool.{Bool, true, false, cond, _&&_, _||_, not}
+use mathlib.Core.Bool.{true, _&&_, not}
 use mathlib.Core.Option.{Option, none, some}
 use mathlib.Core.List.{List, [], _∷_, _++_, List·Memᴰ, List·Memᴰ·head, List·Memᴰ·tail, List·Memᴰ·not-nil, List·Memᴰ·append-cases, List·Memᴰ·eq-of-singleton, Memᴰ·append-left, Memᴰ·append-right}
 use lib.Dec.{eqb, ltb}
 use borrow.Author.Tests.{eqb-true, eqb-false, eq-eqb, ne-eqb, ltb-true, lt-ltb, not-true}
-use Rattle.model.specs.Trace.{Trace, _∈_, read, write, threadOf, kindOf, objectOf, numbers}
+use Rattle.model.specs.Trace.{Trace, read, write, threadOf, kindOf, objectOf}
+use Rattle.model.specs.Lists.{_∈_, numbers}
 use Rattle.model.specs.Good.{WellFormed}
 use Rattle.model.specs.Race.{Access, Conflicting, Increasing, Reported, Witness, pair}
 use Rattle.model.specs.Check.{isValid}
 use Rattle.model.specs.Listing.{Race, RaceOf, After, Sorted, Listing, FirstAfter}
 use Rattle.model.specs.Decision.{witness, isAccess, isConflicting, raceWith, raceOn, each, races, isAfter, firstAfter, nextRace}
 use Rattle.model.proofs.Tests.{by-cases, in-cons, clash, both, true-both, either-true, true-either}
-use Rattle.model.proofs.Lists.{mem-numbers, numbers-mem, increasing-numbers}
+use Rattle.model.proofs.Lists.{numbers-mem, increasing-numbers}
 use Rattle.model.proofs.Threads.{conflicting-apart, pair-valid}
 use Rattle.model.proofs.CheckExact.{valid-true, true-valid}
 use Rattle.model.proofs.SearchExact.{search-exactly, search-none}
@@ -32,6 +33,10 @@ module _ (t : Trace) (w : WellFormed t) (a b : ℕ) (c : Conflicting t a b) wher
       go : Reported t a b → (o : Option (List ℕ)) → witness t a b ≡ o → (ρ : List ℕ) × (witness t a b ≡ some ρ)
       go r none e = absurd (search-none t (pair a b) (threadOf t a) (pair-valid t a b (conflicting-apart c)) w .0 e (r .0) (r .1))
       go r (some ρ) e = (ρ, e)
+
+  -- a pair is reported exactly when it has a witness
+  pub reported-shown : Reported t a b ↔ ((ρ : List ℕ) × Witness t a b ρ)
+  reported-shown = ((λ r. let x = reported-answered .0 r in (x .0, witness-exactly (x .0) .0 (x .1))), (λ x. (x .0, x .1 .candidate)))
 
 -- ---- the test of a conflicting pair
 

@@ -1,14 +1,15 @@
 -- Lists of event numbers: those that pass a test, the trace's own, a list read backwards, and lists in order.
-use Prim.Native.Nat.{ℕ, zero, suc, _≤_, _<_, zero-le}
+use Prim.Native.Nat.{ℕ, zero, suc, _≤_, _<_}
 use native.Mathlib.Omega.{arith}
 use mathlib.Core.Path.{_≡_, refl, sym, _∙_, ap}
 use mathlib.Core.Logic.{_≢_, _⊎_, inl, inr, ⊎-elim}
-use mathlib.Core.Bool.{Bool, true, false, _&&_, false≢true}
+use mathlib.Core.Bool.{Bool, true, false, false≢true}
 use mathlib.Core.List.{List, [], _∷_, _++_, reverse, reverseAux, reverseAux-eq, nil≢cons, head-eq-of-cons-eq, tail-eq-of-cons-eq, List·Memᴰ·head, List·Memᴰ·tail, List·Memᴰ·not-nil}
 use lib.ListN.{length}
 use lib.Dec.{eqb, leb}
 use borrow.Author.Tests.{eqb-true, eq-eqb, leb-true, leb-false}
-use Rattle.model.specs.Trace.{Trace, Valid, _∈_, threadOf, upTo, before, numbers, put, keep, nearest, anyIn, listed, only, own, is}
+use Rattle.model.specs.Trace.{Trace, Valid, threadOf}
+use Rattle.model.specs.Lists.{_∈_, upTo, before, numbers, put, keep, nearest, anyIn, listed, only, own, is}
 use Rattle.model.specs.Race.{Increasing}
 use Rattle.model.proofs.Tests.{by-cases, in-cons, clash, is-true, true-is}
 

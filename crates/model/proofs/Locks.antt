@@ -6,10 +6,11 @@ use mathlib.Core.Logic.{_⊎_}
 use mathlib.Core.Bool.{Bool, true, false, cond}
 use mathlib.Core.List.{List, [], _∷_, List·Memᴰ·head, List·Memᴰ·tail}
 use lib.ListN.{length}
-use Rattle.model.specs.Trace.{Trace, Valid, _∈_, read, write, acquire, release, threadOf, kindOf, objectOf, does, upTo, before, only, own, is}
-use Rattle.model.specs.Observed.{lastWrite, observed}
+use Rattle.model.specs.Trace.{Trace, Valid, read, acquire, release, threadOf, kindOf, objectOf, does}
+use Rattle.model.specs.Lists.{_∈_, upTo, before, only, is}
+use Rattle.model.specs.Observed.{observed}
 use Rattle.model.specs.Good.{holder, Free, Held, WellFormed}
-use Rattle.model.specs.Reordering.{Sees, Step}
+use Rattle.model.specs.Reordering.{Sees}
 use Rattle.model.proofs.Tests.{by-cases, does-true, true-is}
 use Rattle.model.proofs.Lists.{own-only}
 use Rattle.model.proofs.Histories.{Legal, lastWrite-kept}

@@ -2,19 +2,20 @@
 use Prim.Native.Nat.{ℕ, zero, suc, _+_, _-_, _≤_, _<_}
 use native.Mathlib.Omega.{arith}
 use mathlib.Core.Path.{_≡_, refl, sym, _∙_, ap}
-use mathlib.Core.Logic.{_≢_, _⊎_, inl, inr, ⊎-elim}
-use mathlib.Core.Bool.{Bool, true, false, _&&_, not}
+use mathlib.Core.Logic.{_⊎_, inl, inr, ⊎-elim}
+use mathlib.Core.Bool.{Bool, true, false, not}
 use mathlib.Core.Option.{Option, none, some}
 use mathlib.Core.List.{List, [], _∷_, reverse, reverse-append, nil≢cons, List·Memᴰ·head, List·Memᴰ·tail}
 use lib.ListN.{length, getD, take, drop, length-drop, drop-of-length-le}
 use lib.Seq.{take-suc, drop-cons}
 use lib.Dec.{ltb}
 use borrow.Author.Tests.{ltb-true, lt-ltb}
-use Rattle.model.specs.Trace.{Trace, _∈_, threadOf, only, is}
+use Rattle.model.specs.Trace.{Trace, threadOf}
+use Rattle.model.specs.Lists.{_∈_, only, is}
 use Rattle.model.specs.Race.{Preferred}
 use Rattle.model.specs.Grid.{side, mayStep, passed, stepAt, after, orElse, path, stepIn, Passes}
-use Rattle.model.proofs.Tests.{by-cases, clash, both, true-both, is-true, true-is, is-false, false-is, but-true, true-but, false-but}
-use Rattle.model.proofs.GridSteps.{side-own, side-other}
+use Rattle.model.proofs.Tests.{by-cases, clash, both, true-both, is-true, is-false, false-is, but-true, true-but}
+use Rattle.model.proofs.GridSteps.{side-other}
 
 getD-mem : (l : List ℕ) (i : ℕ) → i < length l → getD l i 0 ∈ l
 getD-mem [] i p = absurd (omega arith)

@@ -1,12 +1,14 @@
 -- The one shown is unique, and what is shown brings both accesses next.
 use Prim.Native.Nat.{ℕ}
-use mathlib.Core.Path.{_≡_, refl, sym, _∙_}
-use mathlib.Core.Logic.{_≢_, _⊎_, inl, inr, ⊎-elim}
-use mathlib.Core.List.{List, [], _∷_, reverse}
-use Rattle.model.specs.Trace.{Trace, Valid, _∈_, threadOf}
+use mathlib.Core.Path.{_≡_, refl, sym}
+use mathlib.Core.Logic.{_⊎_, inl, inr, ⊎-elim}
+use mathlib.Core.List.{List, [], _∷_, reverse, nil≢cons, head-eq-of-cons-eq, tail-eq-of-cons-eq}
+use Rattle.model.specs.Trace.{Trace, Valid, threadOf}
+use Rattle.model.specs.Lists.{_∈_, only, own, is, but}
 use Rattle.model.specs.Reordering.{EnabledAfter, BringsBoth}
 use Rattle.model.specs.Cone.{root}
 use Rattle.model.specs.Race.{Candidate, Preferred, Shown, Witness, Conflicting, pair}
+use Rattle.model.proofs.Tests.{by-cases, is-true, is-false, true-but, false-but}
 use Rattle.model.proofs.Lists.{mem-reverse, reverse-mem}
 use Rattle.model.proofs.Histories.{to-legal, enabled-by}
 use Rattle.model.proofs.Threads.{Apart, conflicting-apart, in-pair-a, in-pair-b}
@@ -22,6 +24,43 @@ not-both-ways t m (x ∷ ρ) (y ∷ τ) f g =
 pub shown-unique : (t : Trace) (R : List ℕ) (m : ℕ) (ρ τ : List ℕ) → Shown t R m ρ → Shown t R m τ → ρ ≡ τ
 shown-unique t R m ρ τ p q =
     ⊎-elim (λ e. e) (λ f. ⊎-elim (λ e. sym e) (λ g. absurd (not-both-ways t m ρ τ f g)) (q .chosen ρ (p .candidate))) (p .chosen τ (q .candidate))
+
+-- Two orders of the same events, where those of the moved thread and the others each keep their order, first differ at a place
+-- where one takes an event of the moved thread and the other does not.
+module _ (t : Trace) (m : ℕ) where
+  abbrev Compared : List ℕ → List ℕ → Type 0
+  Compared ρ τ = (ρ ≡ τ) ⊎ (Preferred t m ρ τ ⊎ Preferred t m τ ρ)
+
+  same-head : (x y : ℕ) (ρ τ : List ℕ) → x ≡ y → Compared ρ τ → Compared (x ∷ ρ) (y ∷ τ)
+  same-head x y ρ τ e c =
+      ⊎-elim (λ p. inl (cc)) (λ p. inr (⊎-elim (λ q. inl (inl (e, q))) (λ q. inr (inl (sym e, q))) p)) c
+
+  pub same-sides : (ρ τ : List ℕ) → own t m ρ ≡ own t m τ → only t (but m) ρ ≡ only t (but m) τ → Compared ρ τ
+  same-sides [] [] p q = inl refl
+  same-sides [] (y ∷ τ) p q =
+      by-cases (is m (threadOf t y))
+      (λ e. absurd (nil≢cons (rw e at p)))
+      (λ e. let f = true-but m (threadOf t y) (is-false m (threadOf t y) e) in absurd (nil≢cons (rw f at q)))
+  same-sides (x ∷ ρ) [] p q =
+      by-cases (is m (threadOf t x))
+      (λ e. absurd (nil≢cons (sym (rw e at p))))
+      (λ e. let f = true-but m (threadOf t x) (is-false m (threadOf t x) e) in absurd (nil≢cons (sym (rw f at q))))
+  same-sides (x ∷ ρ) (y ∷ τ) p q =
+      by-cases (is m (threadOf t x))
+      (λ e.
+      by-cases (is m (threadOf t y))
+      (λ f.
+      let d : (x ∷ own t m ρ) ≡ (y ∷ own t m τ) = rw (e, f) at p in
+      let o : only t (but m) ρ ≡ only t (but m) τ = rw (false-but m (threadOf t x) (is-true m (threadOf t x) e), false-but m (threadOf t y) (is-true m (threadOf t y) f)) at q in
+      same-head x y ρ τ (head-eq-of-cons-eq d) (same-sides ρ τ (tail-eq-of-cons-eq d) o))
+      (λ f. inr (inr (inr (is-false m (threadOf t y) f, is-true m (threadOf t x) e)))))
+      (λ e.
+      by-cases (is m (threadOf t y))
+      (λ f. inr (inl (inr (is-false m (threadOf t x) e, is-true m (threadOf t y) f))))
+      (λ f.
+      let d : (x ∷ only t (but m) ρ) ≡ (y ∷ only t (but m) τ) =
+      rw (true-but m (threadOf t x) (is-false m (threadOf t x) e), true-but m (threadOf t y) (is-false m (threadOf t y) f)) at q in
+      same-head x y ρ τ (head-eq-of-cons-eq d) (same-sides ρ τ (rw (e, f) at p) (tail-eq-of-cons-eq d))))
 
 -- a candidate brings each root next
 pub candidate-next : (t : Trace) (R : List ℕ) (m : ℕ) (ρ : List ℕ) → Candidate t R m ρ → (r : ℕ) → r ∈ R → Valid t r → EnabledAfter t ρ r

@@ -3,13 +3,14 @@ use Prim.Native.Nat.{ℕ, zero, suc, _≤_, _<_}
 use native.Mathlib.Omega.{arith}
 use mathlib.Core.Path.{_≡_, refl, sym, _∙_, ap, ap₂}
 use mathlib.Core.Logic.{_≢_, _⊎_, inl, inr, ⊎-elim, _↔_}
-use mathlib.Core.Bool.{Bool, true, false, _&&_, not}
+use mathlib.Core.Bool.{Bool, true, _&&_, not}
 use mathlib.Core.Option.{Option, none, some}
 use mathlib.Core.List.{List, [], _∷_, List·Memᴰ·head, List·Memᴰ·tail, List·Memᴰ·not-nil}
 use lib.ListN.{length}
 use lib.Dec.{eqb, leb, ltb}
 use borrow.Author.Tests.{eqb-true, eqb-false, eq-eqb, ne-eqb, leb-true, le-leb, ltb-true, ltb-false, not-true}
-use Rattle.model.specs.Trace.{Trace, Valid, _∈_, read, acquire, release, threadOf, kindOf, objectOf, before, numbers}
+use Rattle.model.specs.Trace.{Trace, Valid, read, acquire, release, threadOf, kindOf, objectOf}
+use Rattle.model.specs.Lists.{_∈_, before, numbers}
 use Rattle.model.specs.Good.{KnownKind, maxEvents, maxThread, maxObject, holder, Free, Held, Good}
 use Rattle.model.specs.Race.{Increasing}
 use Rattle.model.specs.Check.{isFree}

@@ -2,20 +2,21 @@
 use Prim.Native.Nat.{ℕ, zero, suc, _≤_}
 use native.Mathlib.Omega.{arith}
 use mathlib.Core.Path.{_≡_, refl, sym, _∙_, ap}
-use mathlib.Core.Logic.{_≢_, _↔_}
+use mathlib.Core.Logic.{_↔_}
 use mathlib.Core.Bool.{Bool}
 use mathlib.Core.List.{List, [], _∷_, _++_, reverse, reverseAux, reverse-reverse, reverse-append, append-assoc, List·Memᴰ·head, Memᴰ·append-left, Memᴰ·append-right}
 use lib.ListN.{length}
 use lib.Dec.{eqb, leb}
 use borrow.Author.Tests.{eqb-true, eqb-false, leb-true, leb-false}
-use Rattle.model.specs.Trace.{Trace, Valid, _∈_, read, write, acquire, threadOf, kindOf, objectOf, does, upTo, before, numbers, own, is, keep}
-use Rattle.model.specs.Observed.{lastWrite, observed}
-use Rattle.model.specs.Good.{Free}
-use Rattle.model.specs.Reordering.{StandsAfter, CorrectReordering, Enabled, EnabledAfter, Sees, Step, Correct, CorrectFrom}
+use Rattle.model.specs.Trace.{Trace, Valid, read, write, threadOf, kindOf, objectOf, does}
+use Rattle.model.specs.Lists.{_∈_, upTo, before, numbers, own, is}
+use Rattle.model.specs.Observed.{observed}
+use Rattle.model.specs.Good.{WellFormed}
+use Rattle.model.specs.Reordering.{StandsAfter, CorrectReordering, EnabledAfter, Sees, Step, Correct, CorrectFrom}
 use Rattle.model.specs.Cone.{Earlier}
 use Rattle.model.proofs.Tests.{by-cases, true-is}
 use Rattle.model.proofs.Lists.{keep-reverse, keep-append, behind, nearest-none, none-nearest, mem-reverse, reverse-mem, reverse-split}
-use Rattle.model.proofs.Histories.{to-legal, legal-valid, own-beginning, enabled-by, mem-enabled, enabled-out}
+use Rattle.model.proofs.Histories.{Legal, to-legal, of-legal, legal-valid, own-beginning, enabled-by, mem-enabled, enabled-out}
 
 module _ (t : Trace) where
   -- ---- from the definition to the words
@@ -113,3 +114,13 @@ module _ (t : Trace) where
         enabled-by t (reverse ρ) (to-legal t ρ c) k (x .0) (λ m. x .1 (mem-reverse k ρ m))
         (λ j p q r. reverse-mem (x .2 j (record { first = p; less = q; thread = r })))),
   )
+
+  -- the trace is a correct reordering of itself
+  pub trace-correct : WellFormed t → Correct t (numbers t)
+  trace-correct w = of-legal t (upTo (length t)) (go (length t) (omega arith))
+    where
+      go : (m : ℕ) → m ≤ length t → Legal t (upTo m)
+      go zero p = tt
+      go (suc m) p =
+          let v : Valid t (suc m) = record { positive = omega arith; bounded = p } in
+          (record { enabled = record { valid = v; next = refl }; sees = λ r. unfold observed in refl; free = w .taken-free (suc m) v }, go m (omega arith))

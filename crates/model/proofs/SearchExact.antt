@@ -1,30 +1,31 @@
 -- Candidates are the merges of the cone's events in which every step passes; so the search gives the one shown exactly when there is one.
-use Prim.Native.Nat.{ℕ, zero, suc, _+_, _≤_, zero-le}
+use Prim.Native.Nat.{ℕ, _+_, zero-le}
 use native.Mathlib.Omega.{arith}
 use mathlib.Core.Path.{_≡_, refl, sym, _∙_, ap}
-use mathlib.Core.Logic.{_≢_, _⊎_, inl, inr, ⊎-elim, _↔_}
+use mathlib.Core.Logic.{_⊎_, inl, inr, ⊎-elim, _↔_}
 use mathlib.Core.Bool.{Bool, true, false, _&&_}
 use mathlib.Core.Option.{Option, none, some}
 use mathlib.Core.List.{List, [], _∷_, _++_, reverse, reverseAux, reverseAux-eq, reverse-reverse, List·Memᴰ·head, Memᴰ·append-right}
 use lib.ListN.{length}
 use lib.Dec.{eqb}
 use borrow.Author.Tests.{eqb-true, eqb-false}
-use Rattle.model.specs.Trace.{Trace, Valid, _∈_, read, threadOf, kindOf, objectOf, upTo, before, keep, anyIn, listed, only, own, is, but}
+use Rattle.model.specs.Trace.{Trace, Valid, read, threadOf, kindOf, objectOf}
+use Rattle.model.specs.Lists.{_∈_, upTo, before, keep, anyIn, listed, only, own, is, but}
 use Rattle.model.specs.Observed.{observed}
 use Rattle.model.specs.Good.{WellFormed}
 use Rattle.model.specs.Reordering.{Sees, Correct}
 use Rattle.model.specs.Cone.{InCone, earlier, observes}
-use Rattle.model.specs.Race.{Candidate, Increasing, Shown}
+use Rattle.model.specs.Race.{Candidate, Increasing, Preferred, Shown}
 use Rattle.model.specs.Rounds.{cone}
 use Rattle.model.specs.Grid.{side, sawOther, Passes}
 use Rattle.model.specs.Decision.{shownFor}
-use Rattle.model.proofs.Tests.{by-cases, clash, both, true-both, is-true, is-false, true-but}
+use Rattle.model.proofs.Tests.{by-cases, clash, both, true-both, is-true}
 use Rattle.model.proofs.Lists.{mem-keep, keep-mem, keep-keep, keep-reverse, keep-reverseAux, behind, mem-only, only-mem, own-only, mem-listed, listed-mem, any-mem, mem-any, mem-before, mem-reverse, reverse-mem, increasing-keep, increasing-unique}
 use Rattle.model.proofs.Histories.{own-increasing, lastWrite-kept}
 use Rattle.model.proofs.ConeExact.{cone-valid, cone-exactly, cone-made, cone-increasing}
 use Rattle.model.proofs.GridSteps.{side-own, saw-false, Fit, passes-exactly}
 use Rattle.model.proofs.Merges.{BestOf, best-map, best-none, Merge, best-path}
-use Rattle.model.proofs.OneShown.{shown-unique}
+use Rattle.model.proofs.OneShown.{shown-unique, same-sides}
 
 only-keep : (t : Trace) (s g : ℕ → Bool) (l : List ℕ) → only t s (keep g l) ≡ keep (λ k. g k && s (threadOf t k)) l
 only-keep t s g [] = refl
@@ -121,6 +122,13 @@ module _ (t : Trace) (R : List ℕ) (m : ℕ) (v : (r : ℕ) → r ∈ R → Val
       (increasing-keep (λ k. side m b (threadOf t k)) (cone t R) (cone-increasing t R))
       (λ k x. let y = mem-only t (side m b) k ρ x in only-mem t (side m b) (cone-exactly t R v k .1 (c .members k .0 (y .0))) (y .1))
       (λ k x. let y = mem-only t (side m b) k (cone t R) x in only-mem t (side m b) (c .members k .1 (cone-exactly t R v k .0 (y .0))) (y .1))
+
+  -- two candidates that differ are told apart by the preference: the rule never meets two events outside the moved thread
+  pub preference-decides : (ρ τ : List ℕ) → Candidate t R m ρ → Candidate t R m τ → (ρ ≡ τ) ⊎ (Preferred t m ρ τ ⊎ Preferred t m τ ρ)
+  preference-decides ρ τ c d =
+      let p = candidate-sides ρ c in
+      let q = candidate-sides τ d in
+      same-sides t m ρ τ (p true ∙ sym (q true)) (p false ∙ sym (q false))
 
   same-members : (l r : List ℕ) → ((b : Bool) → only t (side m b) l ≡ only t (side m b) r) → (k : ℕ) → k ∈ l → k ∈ r
   same-members l r same k x =

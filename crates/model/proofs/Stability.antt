@@ -3,10 +3,11 @@
 use Prim.Native.Nat.{ℕ, _≤_}
 use native.Mathlib.Omega.{arith}
 use mathlib.Core.Path.{_≡_, refl, sym, _∙_}
-use mathlib.Core.Logic.{_≢_, _⊎_, inl, inr, ⊎-elim, _↔_}
+use mathlib.Core.Logic.{_⊎_, inl, inr, ⊎-elim, _↔_}
 use mathlib.Core.List.{List, [], _∷_, reverse, reverse-reverse, List·Memᴰ·head, List·Memᴰ·tail}
 use lib.ListN.{length}
-use Rattle.model.specs.Trace.{Trace, Valid, _∈_, TwoThreads, threadOf, but}
+use Rattle.model.specs.Trace.{Trace, Valid, threadOf}
+use Rattle.model.specs.Lists.{_∈_, TwoThreads, but}
 use Rattle.model.specs.Reordering.{BringsBoth}
 use Rattle.model.specs.Cone.{InCone, Earlier, root, earlier, observes, closes}
 use Rattle.model.specs.Race.{Candidate, Reported, Preferred, Shown, Witness, pair}

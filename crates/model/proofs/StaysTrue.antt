@@ -1,10 +1,11 @@
 -- Demand 3, whole: one theorem over a trace, a pair and the whole list of added events.
 use Prim.Native.Nat.{ℕ}
-use mathlib.Core.Path.{_≡_, refl, sym, _∙_, ap}
+use mathlib.Core.Path.{_≡_, refl, sym, _∙_}
 use mathlib.Core.Logic.{_↔_}
 use mathlib.Core.Option.{Option, none, some}
 use mathlib.Core.List.{List}
-use Rattle.model.specs.Trace.{Trace, TwoThreads, threadOf}
+use Rattle.model.specs.Trace.{Trace, threadOf}
+use Rattle.model.specs.Lists.{TwoThreads}
 use Rattle.model.specs.Good.{Good}
 use Rattle.model.specs.Reordering.{BringsBoth}
 use Rattle.model.specs.Race.{Conflicting, Witness}
@@ -14,7 +15,7 @@ use Rattle.model.specs.Decision.{witness}
 use Rattle.model.specs.StaysTrue.{ExactAndSteady, StaysTrue}
 use Rattle.model.proofs.Agree.{extended-conflicting}
 use Rattle.model.proofs.Threads.{conflicting-apart}
-use Rattle.model.proofs.TwoThreads.{reported-exactly}
+use Rattle.model.proofs.TwoThreads.{two-threads-exact}
 use Rattle.model.proofs.Stability.{same-verdict, same-witness, candidate-stays}
 use Rattle.model.proofs.CheckExact.{yes-exactly}
 use Rattle.model.proofs.ListingExact.{witness-exactly, reported-answered}
@@ -43,7 +44,7 @@ module _ (t t′ : Trace) (g : Good t) (long : Extension t t′) (a b : ℕ) (c 
 
     exact-and-steady : ExactAndSteady t t′ a b
     exact-and-steady =
-        let x = reported-exactly t g two a b (conflicting-apart c) in
+        let x = two-threads-exact t g two a b (conflicting-apart c) in
         let y = reported-answered t (g .well-formed) a b c in record {
           exact = x;
           same-verdict = same-verdict t two a b (conflicting-apart c) t′ long;

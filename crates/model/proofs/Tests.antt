@@ -6,7 +6,8 @@ use mathlib.Core.Bool.{Bool, true, false, _&&_, _||_, not, true≢false, false�
 use mathlib.Core.List.{List, _∷_, List·Memᴰ, List·Memᴰ·cases-cons}
 use lib.Dec.{eqb}
 use borrow.Author.Tests.{eqb-true, eq-eqb, ne-eqb}
-use Rattle.model.specs.Trace.{Trace, kindOf, objectOf, does, is, but}
+use Rattle.model.specs.Trace.{Trace, kindOf, objectOf, does}
+use Rattle.model.specs.Lists.{is, but}
 
 pub by-cases {ℓ} : {G : Type ℓ} (b : Bool) → (b ≡ true → G) → (b ≡ false → G) → G
 by-cases true f g = f refl

@@ -3,10 +3,10 @@ use Prim.Native.Nat.{ℕ, zero, suc, _≤_, _<_}
 use native.Mathlib.Omega.{arith}
 use mathlib.Core.Path.{_≡_, refl, sym, _∙_}
 use mathlib.Core.Logic.{_≢_, _⊎_, inl, inr, _↔_}
-use mathlib.Core.Bool.{true, false}
 use mathlib.Core.List.{List, [], _∷_, List·Memᴰ·head, List·Memᴰ·tail, List·Memᴰ·not-nil, List·Memᴰ·eq-of-singleton}
 use lib.ListN.{length, getD}
-use Rattle.model.specs.Trace.{Trace, Event, Valid, _∈_, Distinct, TwoThreads, noEvent, threadOf, listed, threads}
+use Rattle.model.specs.Trace.{Trace, Event, Valid, noEvent, threadOf}
+use Rattle.model.specs.Lists.{_∈_, Distinct, TwoThreads, listed, threads}
 use Rattle.model.specs.Race.{Conflicting, pair}
 use Rattle.model.proofs.Tests.{by-cases, in-cons, clash}
 use Rattle.model.proofs.Lists.{mem-listed, listed-mem}

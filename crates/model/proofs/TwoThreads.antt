@@ -2,14 +2,15 @@
 -- of the trace or of an extension, brings both accesses next.
 use Prim.Native.Nat.{ℕ, _≤_, _<_}
 use native.Mathlib.Omega.{arith}
-use mathlib.Core.Path.{_≡_, refl, sym, _∙_}
+use mathlib.Core.Path.{_≡_, sym, _∙_}
 use mathlib.Core.Logic.{_≢_, _⊎_, inl, inr, ⊎-elim, _↔_}
 use mathlib.Core.Bool.{Bool, true, _||_}
-use mathlib.Core.List.{List, [], _∷_, reverse, append-nil}
+use mathlib.Core.List.{List, [], reverse, append-nil}
 use lib.ListN.{length}
 use lib.Dec.{eqb}
 use borrow.Author.Tests.{eqb-true, eqb-false}
-use Rattle.model.specs.Trace.{Trace, Valid, _∈_, TwoThreads, read, threadOf, kindOf, upTo, only, own, is, but}
+use Rattle.model.specs.Trace.{Trace, Valid, threadOf}
+use Rattle.model.specs.Lists.{_∈_, TwoThreads, upTo, only, own, is, but}
 use Rattle.model.specs.Observed.{observed}
 use Rattle.model.specs.Good.{Good}
 use Rattle.model.specs.Reordering.{Enabled}
@@ -144,8 +145,8 @@ module _ (t : Trace) (two : TwoThreads t) (a b : ℕ) (c : Apart t a b) (t′ : 
 pub empty-extension : (t : Trace) → Good t → Extension t t
 empty-extension t g = record { added = []; same = sym (append-nil t); good = g }
 
-pub reported-exactly : (t : Trace) → Good t → TwoThreads t → (a b : ℕ) → Apart t a b → Reported t a b ↔ PredictableInExtension t a b
-reported-exactly t g two a b c = (
+pub two-threads-exact : (t : Trace) → Good t → TwoThreads t → (a b : ℕ) → Apart t a b → Reported t a b ↔ PredictableInExtension t a b
+two-threads-exact t g two a b c = (
   (λ r. (t, empty-extension t g, (r .0, candidate-brings t a b (threadOf t a) (r .0) c (r .1)))),
   (λ p.
       let ρ = p .2 .0 in

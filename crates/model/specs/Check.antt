@@ -1,11 +1,12 @@
 -- The check of a proposed list for (a, b) (question 5): yes, or the number of its first fault.
 use Prim.Native.Nat.{ℕ, zero, suc}
 use mathlib.Core.Path.{_≡_}
-use mathlib.Core.Bool.{Bool, true, false, cond, _&&_, _||_, not}
+use mathlib.Core.Bool.{Bool, true, false, cond, _&&_, not}
 use mathlib.Core.List.{List, [], _∷_, reverse}
 use lib.ListN.{length}
 use lib.Dec.{eqb, leb}
-use Rattle.model.specs.Trace.{Trace, Valid, read, acquire, threadOf, kindOf, objectOf, own, before}
+use Rattle.model.specs.Trace.{Trace, Valid, read, acquire, threadOf, kindOf, objectOf}
+use Rattle.model.specs.Lists.{own, before}
 use Rattle.model.specs.Observed.{lastWrite, observed}
 use Rattle.model.specs.Good.{holder, Free}
 use Rattle.model.specs.Reordering.{StandsAfter, Enabled, Sees, Correct, EnabledAfter, BringsBoth}

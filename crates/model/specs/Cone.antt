@@ -5,7 +5,8 @@ use mathlib.Core.Logic.{_≢_}
 use mathlib.Core.Bool.{Bool, _&&_}
 use mathlib.Core.List.{List}
 use lib.Dec.{eqb, ltb}
-use Rattle.model.specs.Trace.{Trace, _∈_, read, acquire, release, threadOf, kindOf, objectOf, does, nearest, numbers}
+use Rattle.model.specs.Trace.{Trace, read, acquire, release, threadOf, kindOf, objectOf, does}
+use Rattle.model.specs.Lists.{_∈_, nearest, numbers}
 use Rattle.model.specs.Observed.{observed}
 
 -- j is an earlier event of k's thread

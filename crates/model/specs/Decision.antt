@@ -1,11 +1,12 @@
 -- The executable decision, last part: the witness of a pair, the listing, and the first race after two given numbers.
 use Prim.Native.Nat.{ℕ, _+_}
-use mathlib.Core.Bool.{Bool, true, false, cond, _&&_, _||_, not}
+use mathlib.Core.Bool.{Bool, cond, _&&_, _||_, not}
 use mathlib.Core.Option.{Option, none, some}
 use mathlib.Core.List.{List, [], _∷_, _++_}
 use lib.ListN.{length}
 use lib.Dec.{eqb, ltb}
-use Rattle.model.specs.Trace.{Trace, read, write, threadOf, kindOf, objectOf, own, only, but, anyIn, listed, numbers}
+use Rattle.model.specs.Trace.{Trace, read, write, threadOf, kindOf, objectOf}
+use Rattle.model.specs.Lists.{own, only, but, anyIn, listed, numbers}
 use Rattle.model.specs.Race.{pair}
 use Rattle.model.specs.Check.{isValid}
 use Rattle.model.specs.Listing.{Race}

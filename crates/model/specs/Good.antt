@@ -4,7 +4,8 @@ use mathlib.Core.Path.{_≡_}
 use mathlib.Core.Bool.{cond}
 use mathlib.Core.List.{List, [], _∷_}
 use lib.ListN.{length}
-use Rattle.model.specs.Trace.{Trace, Valid, read, acquire, release, threadOf, kindOf, objectOf, does, before}
+use Rattle.model.specs.Trace.{Trace, Valid, read, acquire, release, threadOf, kindOf, objectOf, does}
+use Rattle.model.specs.Lists.{before}
 
 -- who holds lock x after a history: 0 for nobody, suc c for thread c
 abbrev pub holder : Trace → ℕ → List ℕ → ℕ

@@ -8,8 +8,9 @@ use mathlib.Core.Option.{Option, none, some}
 use mathlib.Core.List.{List, [], _∷_, reverse}
 use lib.ListN.{length, getD, take, drop}
 use lib.Dec.{eqb, ltb}
-use Rattle.model.specs.Trace.{Trace, read, write, acquire, threadOf, kindOf, objectOf, does, listed, only, own, is, but}
-use Rattle.model.specs.Observed.{lastWrite, observed}
+use Rattle.model.specs.Trace.{Trace, read, write, acquire, threadOf, kindOf, objectOf, does}
+use Rattle.model.specs.Lists.{listed, only, is, but}
+use Rattle.model.specs.Observed.{observed}
 use Rattle.model.specs.Check.{isSeen, isFree}
 
 -- the threads of one of the two lists: m alone (true), or every other (false)

@@ -1,4 +1,5 @@
 pub mod Trace
+pub mod Lists
 pub mod Observed
 pub mod Good
 pub mod Reordering

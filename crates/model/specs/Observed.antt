@@ -1,7 +1,8 @@
 -- Observed write.
 use Prim.Native.Nat.{ℕ}
 use mathlib.Core.List.{List}
-use Rattle.model.specs.Trace.{Trace, write, objectOf, does, before, nearest}
+use Rattle.model.specs.Trace.{Trace, write, objectOf, does}
+use Rattle.model.specs.Lists.{before, nearest}
 
 -- the last write of cell x in a history; 0 where there is none
 abbrev pub lastWrite : Trace → ℕ → List ℕ → ℕ

@@ -3,7 +3,8 @@ use Prim.Native.Nat.{ℕ, _<_}
 use mathlib.Core.Path.{_≡_}
 use mathlib.Core.Logic.{_≢_, _⊎_, _↔_}
 use mathlib.Core.List.{List, [], _∷_}
-use Rattle.model.specs.Trace.{Trace, Valid, _∈_, read, write, threadOf, kindOf, objectOf, only, but}
+use Rattle.model.specs.Trace.{Trace, Valid, read, write, threadOf, kindOf, objectOf}
+use Rattle.model.specs.Lists.{_∈_, only, but}
 use Rattle.model.specs.Reordering.{Correct}
 use Rattle.model.specs.Cone.{InCone}
 

@@ -5,7 +5,8 @@ use mathlib.Core.Bool.{cond, _&&_, not}
 use mathlib.Core.Option.{Option, none, some}
 use mathlib.Core.List.{List, [], _∷_}
 use lib.Dec.{eqb, leb}
-use Rattle.model.specs.Trace.{Trace, Valid, read, acquire, release, threadOf, kindOf, objectOf, before, numbers}
+use Rattle.model.specs.Trace.{Trace, Valid, read, acquire, release, threadOf, kindOf, objectOf}
+use Rattle.model.specs.Lists.{before, numbers}
 use Rattle.model.specs.Good.{KnownKind, maxThread, maxObject, holder, Free, Held}
 use Rattle.model.specs.Check.{isFree}
 

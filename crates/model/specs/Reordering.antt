@@ -4,7 +4,8 @@ use mathlib.Core.Path.{_≡_}
 use mathlib.Core.Logic.{_≢_}
 use mathlib.Core.Bool.{true}
 use mathlib.Core.List.{List, [], _∷_, _++_, reverse}
-use Rattle.model.specs.Trace.{Trace, Valid, _∈_, read, write, acquire, threadOf, kindOf, objectOf, does, own, before, numbers}
+use Rattle.model.specs.Trace.{Trace, Valid, read, write, acquire, threadOf, kindOf, objectOf, does}
+use Rattle.model.specs.Lists.{_∈_, own, before, numbers}
 use Rattle.model.specs.Observed.{lastWrite, observed}
 use Rattle.model.specs.Good.{Free}
 

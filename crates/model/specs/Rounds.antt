@@ -4,7 +4,8 @@ use mathlib.Core.Bool.{Bool, _&&_, _||_, not}
 use mathlib.Core.List.{List, [], reverse}
 use lib.ListN.{length}
 use lib.Dec.{eqb, ltb}
-use Rattle.model.specs.Trace.{Trace, read, acquire, threadOf, kindOf, upTo, keep, anyIn}
+use Rattle.model.specs.Trace.{Trace, read, acquire, threadOf, kindOf}
+use Rattle.model.specs.Lists.{upTo, keep, anyIn}
 use Rattle.model.specs.Observed.{observed}
 use Rattle.model.specs.Cone.{matching}
 
@@ -25,9 +26,6 @@ rounds n base brings (suc f) = keep (brought base brings (rounds n base brings f
 unfoldable pub isEarlier : Trace → ℕ → ℕ → Bool
 isEarlier t j k = ltb j k && eqb (threadOf t j) (threadOf t k)
 
-unfoldable pub isRooted : Trace → List ℕ → ℕ → Bool
-isRooted t R k = anyIn (λ r. isEarlier t k r) R
-
 unfoldable pub isObserved : Trace → ℕ → ℕ → Bool
 isObserved t j k = eqb (kindOf t j) read && eqb (observed t j) k
 
@@ -36,6 +34,10 @@ isExempt t R j = anyIn (λ r. eqb (threadOf t r) (threadOf t j)) R
 
 unfoldable pub isClosing : Trace → List ℕ → ℕ → ℕ → Bool
 isClosing t R j k = eqb (kindOf t j) acquire && (not (isExempt t R j) && eqb (matching t j) k)
+
+-- event k is in the cone by rule (i)
+unfoldable pub isRooted : Trace → List ℕ → ℕ → Bool
+isRooted t R k = anyIn (λ r. isEarlier t k r) R
 
 -- event j brings event k into the cone, by rule (ii), (iii) or (iv)
 unfoldable pub brings : Trace → List ℕ → ℕ → ℕ → Bool

@@ -4,7 +4,8 @@ use mathlib.Core.Path.{_≡_}
 use mathlib.Core.Logic.{_↔_}
 use mathlib.Core.Option.{some}
 use mathlib.Core.List.{List}
-use Rattle.model.specs.Trace.{Trace, TwoThreads}
+use Rattle.model.specs.Trace.{Trace}
+use Rattle.model.specs.Lists.{TwoThreads}
 use Rattle.model.specs.Reordering.{BringsBoth}
 use Rattle.model.specs.Race.{Reported, Witness}
 use Rattle.model.specs.Extension.{PredictableInExtension}

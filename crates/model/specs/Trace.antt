@@ -1,8 +1,8 @@
--- Events and traces (the paper's recordings), and lists of event numbers.
+-- Events and traces (the paper's recordings).
 -- Events go by their numbers, from 1; 0 is "no event", or the start.
 use Prim.Native.Nat.{ℕ, zero, suc, _≤_}
-use mathlib.Core.Bool.{Bool, true, false, cond, _&&_, _||_, not}
-use mathlib.Core.List.{List, [], _∷_, reverse, List·Memᴰ}
+use mathlib.Core.Bool.{Bool, _&&_}
+use mathlib.Core.List.{List}
 use lib.ListN.{length, getD}
 use lib.Dec.{eqb}
 
@@ -53,75 +53,3 @@ pub record Valid (t : Trace) (k : ℕ) : Type 0 where
 -- event k is of kind c, on object x
 unfoldable pub does : Trace → ℕ → ℕ → ℕ → Bool
 does t c x k = eqb (kindOf t k) c && eqb (objectOf t k) x
-
--- ---- lists of event numbers
-
-infix 4 _∈_
-abbrev pub _∈_ : ℕ → List ℕ → Type 0
-k ∈ l = List·Memᴰ k l
-
--- A history is a list of event numbers, latest first: what stands before an event of the trace, or before a place of a reordering.
--- So one definition of the last write and one of the lock state serve the trace and its reorderings alike.
-abbrev pub upTo : ℕ → List ℕ
-upTo zero = []
-upTo (suc k) = suc k ∷ upTo k
-
--- the history before event k of the trace
-abbrev pub before : ℕ → List ℕ
-before zero = []
-before (suc k) = upTo k
-
--- the trace's events in order
-abbrev pub numbers : Trace → List ℕ
-numbers t = reverse (upTo (length t))
-
--- the members of a list that pass a test
-abbrev pub put : Bool → ℕ → List ℕ → List ℕ
-put true k l = k ∷ l
-put false k l = l
-
-abbrev pub keep : (ℕ → Bool) → List ℕ → List ℕ
-keep p [] = []
-keep p (k ∷ l) = put (p k) k (keep p l)
-
--- the first of them; 0 where there is none
-abbrev pub nearest : (ℕ → Bool) → List ℕ → ℕ
-nearest p [] = 0
-nearest p (k ∷ l) = cond (p k) k (nearest p l)
-
--- there is one
-abbrev pub anyIn : (ℕ → Bool) → List ℕ → Bool
-anyIn p [] = false
-anyIn p (k ∷ l) = p k || anyIn p l
-
-unfoldable pub listed : ℕ → List ℕ → Bool
-listed k l = anyIn (λ j. eqb k j) l
-
--- ---- threads
-
--- the events of a list by the threads of a set, by thread c, and by every thread but m
-abbrev pub only : Trace → (ℕ → Bool) → List ℕ → List ℕ
-only t s l = keep (λ k. s (threadOf t k)) l
-
-unfoldable pub is : ℕ → ℕ → Bool
-is c d = eqb d c
-
-unfoldable pub but : ℕ → ℕ → Bool
-but m d = not (is m d)
-
-abbrev pub own : Trace → ℕ → List ℕ → List ℕ
-own t c l = only t (is c) l
-
--- the different threads that have an event; the paper's number of threads is how many these are
-unfoldable pub threads : Trace → List ℕ
-threads [] = []
-threads (e ∷ t) = put (not (listed (e .thread) (threads t))) (e .thread) (threads t)
-
--- no number stands twice
-abbrev pub Distinct : List ℕ → Type 0
-Distinct [] = Unit {0}
-Distinct (x ∷ l) = ¬ (x ∈ l) × Distinct l
-
--- a trace by at most two threads
-abbrev pub TwoThreads : Trace → Type 0
-TwoThreads t = length (threads t) ≤ 2
