@@ -26,10 +26,13 @@ matching t k = nearest (λ j. givesBack t k j) (numbers t)
 abbrev pub Outside : Trace → List ℕ → ℕ → Type 0
 Outside t R k = (r : ℕ) → r ∈ R → threadOf t r ≢ threadOf t k
 
--- Causal cone of the roots R (of a pair: a and b): the least set with the rules (i) to (iv).
--- The threads of the roots are exempt from rule (iv).
+-- Causal cone of the roots R (of a pair: a and b): the least set with these rules. The roots' threads are exempt from rule (iv).
 pub data InCone (t : Trace) (R : List ℕ) : ℕ → Type 0 where
+  -- (i) every event before a root in its thread
   root : {k r : ℕ} → r ∈ R → Earlier t k r → InCone t R k
+  -- (ii) with an event all earlier ones of its thread
   earlier : {j k : ℕ} → InCone t R k → Earlier t j k → InCone t R j
+  -- (iii) with a read its observed write
   observes : {k w : ℕ} → InCone t R k → kindOf t k ≡ read → observed t k ≡ w → w ≢ 0 → InCone t R w
+  -- (iv) with an acquire by a thread other than the roots' its matching release, if there is one
   closes : {k r : ℕ} → InCone t R k → kindOf t k ≡ acquire → Outside t R k → matching t k ≡ r → r ≢ 0 → InCone t R r
