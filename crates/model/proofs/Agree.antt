@@ -64,7 +64,7 @@ module _ (u v : Trace) (n : ℕ) (same : Agree u v n) where
   unfolding observed
   observed-agree k p = lastWrite-agree (objectOf u k) (before k) (within-before n k p) ∙ ap (λ (x : ℕ). lastWrite v x (before k)) (same-object k p)
 
-  pub enabled-agree : (h : List ℕ) (k : ℕ) → Within n h → k ≤ n → Valid v k → Enabled u h k → Enabled v h k
+  enabled-agree : (h : List ℕ) (k : ℕ) → Within n h → k ≤ n → Valid v k → Enabled u h k → Enabled v h k
   enabled-agree h k w p q st = record {
     valid = q;
     next =

@@ -3,7 +3,7 @@ use Prim.Native.Nat.{ℕ, zero, suc}
 use native.Mathlib.Omega.{arith}
 use mathlib.Core.Path.{_≡_, refl, sym, _∙_, ap, ap₂}
 use mathlib.Core.Logic.{_≢_, _⊎_, inl, inr, ⊎-elim, _↔_}
-use mathlib.Core.Bool.{Bool, true, false, _&&_, not, false≢true}
+use mathlib.Core.Bool.{true, false, _&&_, not, false≢true}
 use mathlib.Core.List.{List, [], _∷_, _++_, reverse, reverseAux}
 use lib.ListN.{length}
 use lib.Dec.{eqb, leb}
@@ -13,7 +13,7 @@ use Rattle.model.specs.Lists.{own, before}
 use Rattle.model.specs.Good.{Free}
 use Rattle.model.specs.Reordering.{Enabled, Sees, Step, CorrectFrom, EnabledAfter, BringsBoth}
 use Rattle.model.specs.Check.{PlaceFault, no-event, not-next, sees-otherwise, lock-held, CheckAnswer, accepted, first-fault, lower-not-enabled, higher-not-enabled, sameList, isValid, isNext, isSeen, isFree, placeFault, firstOf, faultFrom, isEnabled, check}
-use Rattle.model.proofs.Tests.{by-cases, both, true-both, not-both, both-not}
+use Rattle.model.proofs.Tests.{by-cases, both, true-both, not-both, both-not, false-test, test-false}
 
 first-nonzero : (f g : ℕ) → f ≢ 0 → firstOf f g ≡ f
 first-nonzero zero g ne = absurd (ne refl)
@@ -33,13 +33,6 @@ same-refl : (l : List ℕ) → sameList l l ≡ true
 unfolding sameList
 same-refl [] = refl
 same-refl (x ∷ l) = true-both (eq-eqb x x refl) (same-refl l)
-
--- a test that says what it is for
-pub false-test : {P : Type 0} {b : Bool} → (b ≡ true → P) → ¬ P → b ≡ false
-false-test {b = b} f n = by-cases b (λ e. absurd (n (f e))) (λ e. e)
-
-pub test-false : {P : Type 0} {b : Bool} → (P → b ≡ true) → b ≡ false → ¬ P
-test-false f e p = false≢true (sym e ∙ f p)
 
 module _ (t : Trace) where
   pub valid-true : (k : ℕ) → isValid t k ≡ true → Valid t k

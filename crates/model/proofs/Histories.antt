@@ -21,11 +21,11 @@ abbrev pub Legal : Trace → List ℕ → Type 0
 Legal t [] = Unit {0}
 Legal t (k ∷ h) = Step t h k × Legal t h
 
-pub legal-correct : (t : Trace) (h ρ : List ℕ) → Legal t (reverseAux ρ h) → CorrectFrom t h ρ × Legal t h
+legal-correct : (t : Trace) (h ρ : List ℕ) → Legal t (reverseAux ρ h) → CorrectFrom t h ρ × Legal t h
 legal-correct t h [] l = (tt, l)
 legal-correct t h (k ∷ ρ) l = let r = legal-correct t (k ∷ h) ρ l in ((r .1 .0, r .0), r .1 .1)
 
-pub correct-legal : (t : Trace) (h ρ : List ℕ) → CorrectFrom t h ρ → Legal t h → Legal t (reverseAux ρ h)
+correct-legal : (t : Trace) (h ρ : List ℕ) → CorrectFrom t h ρ → Legal t h → Legal t (reverseAux ρ h)
 correct-legal t h [] c l = l
 correct-legal t h (k ∷ ρ) c l = correct-legal t (k ∷ h) ρ (c .1) (c .0, l)
 

@@ -139,7 +139,7 @@ module _ (t : Trace) (c : ℕ) where
 
 -- ---- a list read backwards
 
-pub mem-reverseAux : (k : ℕ) (l r : List ℕ) → k ∈ reverseAux l r → (k ∈ l) ⊎ (k ∈ r)
+mem-reverseAux : (k : ℕ) (l r : List ℕ) → k ∈ reverseAux l r → (k ∈ l) ⊎ (k ∈ r)
 mem-reverseAux k [] r m = inr m
 mem-reverseAux k (x ∷ l) r m =
     ⊎-elim (λ n. inl (List·Memᴰ·tail n)) (λ n. in-cons n (λ e. inl (List·Memᴰ·head e)) (λ u. inr u)) (mem-reverseAux k l (x ∷ r) m)

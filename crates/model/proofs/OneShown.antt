@@ -63,7 +63,7 @@ module _ (t : Trace) (m : ℕ) where
       same-head x y ρ τ (head-eq-of-cons-eq d) (same-sides ρ τ (rw (e, f) at p) (tail-eq-of-cons-eq d))))
 
 -- a candidate brings each root next
-pub candidate-next : (t : Trace) (R : List ℕ) (m : ℕ) (ρ : List ℕ) → Candidate t R m ρ → (r : ℕ) → r ∈ R → Valid t r → EnabledAfter t ρ r
+candidate-next : (t : Trace) (R : List ℕ) (m : ℕ) (ρ : List ℕ) → Candidate t R m ρ → (r : ℕ) → r ∈ R → Valid t r → EnabledAfter t ρ r
 candidate-next t R m ρ c r x v =
     enabled-by t (reverse ρ) (to-legal t ρ (c .correct)) r v
     (λ n. c .roots-out r x (c .members r .0 (mem-reverse r ρ n)))

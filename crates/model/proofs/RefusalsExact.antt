@@ -15,9 +15,9 @@ use Rattle.model.specs.Good.{KnownKind, maxEvents, maxThread, maxObject,
 use Rattle.model.specs.Race.{Increasing}
 use Rattle.model.specs.Check.{isFree}
 use Rattle.model.specs.Refusals.{InLimits, EventRefusal, unknown-kind, thread-over, object-over, lock-held, not-holder, Refusal, FirstRefusal, eventRefusal, orNext, refusalIn, refusal}
-use Rattle.model.proofs.Tests.{by-cases, in-cons, both, true-both, not-both, both-not}
+use Rattle.model.proofs.Tests.{by-cases, in-cons, both, true-both, not-both, both-not, false-test, test-false}
 use Rattle.model.proofs.Lists.{mem-numbers, numbers-mem, increasing-numbers}
-use Rattle.model.proofs.CheckExact.{false-test, test-false, free-true, true-free}
+use Rattle.model.proofs.CheckExact.{free-true, true-free}
 
 -- an event as it should be
 record GoodEvent (t : Trace) (k : ℕ) : Type 0 where

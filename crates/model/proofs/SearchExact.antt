@@ -17,7 +17,7 @@ use Rattle.model.specs.Reordering.{Sees, Correct}
 use Rattle.model.specs.Cone.{InCone, earlier, observes}
 use Rattle.model.specs.Race.{Candidate, Increasing, Preferred, Shown}
 use Rattle.model.specs.Rounds.{cone}
-use Rattle.model.specs.Grid.{side, sawOther, Passes}
+use Rattle.model.specs.Grid.{side, sawOther, MergeOf, Passes}
 use Rattle.model.specs.Decision.{shownFor}
 use Rattle.model.proofs.Tests.{by-cases, clash, both, true-both, is-true}
 use Rattle.model.proofs.Lists.{mem-keep, keep-mem, keep-keep, keep-reverse, keep-reverseAux, behind, mem-only, only-mem, own-only, mem-listed, listed-mem, any-mem, mem-any, mem-before, mem-reverse, reverse-mem, increasing-keep, increasing-unique}
@@ -32,10 +32,6 @@ only-keep t s g [] = refl
 only-keep t s g (k ∷ l) =
     let ih = only-keep t s g l in
     by-cases (g k) (λ e. rw e (by-cases (s (threadOf t k)) (λ f. rw f (ap (λ (r : List ℕ). k ∷ r) ih)) (λ f. rw f ih))) (λ e. rw e ih)
-
--- a merge of the cone's events, by the side of the moved thread (true) and by the others' (false)
-abbrev pub MergeOfCone : Trace → List ℕ → ℕ → List ℕ → Type 0
-MergeOfCone t R m ρ = (b : Bool) → only t (side m b) ρ ≡ only t (side m b) (cone t R)
 
 -- ---- in a merge of the cone's events each one is enabled in its turn
 
@@ -98,7 +94,7 @@ module _ (t : Trace) (R : List ℕ) (m : ℕ) (v : (r : ℕ) → r ∈ R → Val
       )
 
 module _ (t : Trace) (R : List ℕ) (m : ℕ) (v : (r : ℕ) → r ∈ R → Valid t r) where
-  merge-fit : (ρ : List ℕ) → MergeOfCone t R m ρ → Fit t m [] ρ
+  merge-fit : (ρ : List ℕ) → MergeOf t m (cone t R) ρ → Fit t m [] ρ
   merge-fit ρ same =
       let c = cone-made t R in
       let l = keep (c .0) (upTo (length t)) in
@@ -107,7 +103,7 @@ module _ (t : Trace) (R : List ℕ) (m : ℕ) (v : (r : ℕ) → r ∈ R → Val
       ∙ ap (only t (side m b)) (reverse-reverse l) ∙ only-keep t (side m b) (c .0) (upTo (length t)))
 
   -- a merge of the cone's events is correct exactly when every step passes its test
-  pub merge-correct-exactly : WellFormed t → (ρ : List ℕ) → MergeOfCone t R m ρ → Correct t ρ ↔ Passes t m [] ρ
+  pub merge-correct-exactly : WellFormed t → (ρ : List ℕ) → MergeOf t m (cone t R) ρ → Correct t ρ ↔ Passes t m [] ρ
   merge-correct-exactly w ρ same = passes-exactly t m w ρ (merge-fit ρ same)
 
   -- ---- candidates are such merges
@@ -116,7 +112,7 @@ module _ (t : Trace) (R : List ℕ) (m : ℕ) (v : (r : ℕ) → r ∈ R → Val
   sides-increasing ρ c true = own-increasing t m ρ (c .correct)
   sides-increasing ρ c false = c .order
 
-  candidate-sides : (ρ : List ℕ) → Candidate t R m ρ → MergeOfCone t R m ρ
+  candidate-sides : (ρ : List ℕ) → Candidate t R m ρ → MergeOf t m (cone t R) ρ
   candidate-sides ρ c b =
       increasing-unique (only t (side m b) ρ) (only t (side m b) (cone t R)) (sides-increasing ρ c b)
       (increasing-keep (λ k. side m b (threadOf t k)) (cone t R) (cone-increasing t R))
@@ -148,7 +144,7 @@ module _ (t : Trace) (R : List ℕ) (m : ℕ) (v : (r : ℕ) → r ∈ R → Val
         let same = candidate-sides ρ c in
         record { own-side = same true; other-side = same false; passes = merge-correct-exactly w ρ same .0 (c .correct) }
 
-    merge-sides : (ρ : List ℕ) → Merge t m true [] P Q ρ → MergeOfCone t R m ρ
+    merge-sides : (ρ : List ℕ) → Merge t m true [] P Q ρ → MergeOf t m (cone t R) ρ
     merge-sides ρ x true = x .own-side
     merge-sides ρ x false = x .other-side
 

@@ -46,6 +46,13 @@ pub both-not : (b c : Bool) → (b ≡ true → c ≡ true) → (b && not c) ≡
 both-not true c f = rw (f refl)
 both-not false c f = refl
 
+-- a test that says what it is for
+pub false-test : {P : Type 0} {b : Bool} → (b ≡ true → P) → ¬ P → b ≡ false
+false-test {b = b} f n = by-cases b (λ e. absurd (n (f e))) (λ e. e)
+
+pub test-false : {P : Type 0} {b : Bool} → (P → b ≡ true) → b ≡ false → ¬ P
+test-false f e p = clash (f p) e
+
 -- ---- threads
 
 pub is-true : (c d : ℕ) → is c d ≡ true → d ≡ c

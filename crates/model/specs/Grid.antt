@@ -83,6 +83,10 @@ path t m P Q (suc f) i j =
 
 -- ---- the tests along a merge
 
+-- ρ merges the events of c: those of the moved thread and the others each come in c's order
+abbrev pub MergeOf : Trace → ℕ → List ℕ → List ℕ → Type 0
+MergeOf t m c ρ = (b : Bool) → only t (side m b) ρ ≡ only t (side m b) c
+
 -- the test of event k after the history h of a merge, where τ is left after it
 unfoldable pub stepIn : Trace → ℕ → List ℕ → ℕ → List ℕ → Bool
 stepIn t m h k τ =
