@@ -169,8 +169,9 @@ module _ (t : Trace) where
     races-listing = record {
       members = λ x. (
         (λ m.
-            let r = mem-row (mem-each row x (numbers t) m .0) x (mem-each row x (numbers t) m .2) in
-            of-at x (mem-each row x (numbers t) m .0) (r .0) (r .1)),
+            let r = mem-each row x (numbers t) m in
+            let s = mem-row (r .0) x (r .2) in
+            of-at x (r .0) (s .0) (s .1)),
         (λ r.
             let c = r .conflicting in
             each-mem row x (numbers-mem t (x .lower) (c .first)) (each-mem (λ b. raceOn t (x .lower) b) x (numbers-mem t (x .higher) (c .second))
