@@ -40,7 +40,6 @@ raceWith a b none = []
 raceWith a b (some ρ) = record { lower = a; higher = b; witness = ρ } ∷ []
 
 unfoldable pub raceOn : Trace → ℕ → ℕ → List Race
-unfolding shownFor
 raceOn t a b =
     let x = raceWith a b (witness t a b) in
     cond (isConflicting t a b) x []
@@ -52,7 +51,6 @@ each f (k ∷ l) = f k ++ each f l
 
 -- all races of a trace
 unfoldable pub races : Trace → List Race
-unfolding raceOn
 races t = each (λ a. each (λ b. raceOn t a b) (numbers t)) (numbers t)
 
 unfoldable pub isAfter : ℕ → ℕ → Race → Bool
@@ -64,5 +62,4 @@ firstAfter a b (x ∷ l) = cond (isAfter a b x) (some x) (firstAfter a b l)
 
 -- question 4: the first race after (a, b)
 unfoldable pub nextRace : Trace → ℕ → ℕ → Option Race
-unfolding races
 nextRace t a b = firstAfter a b (races t)

@@ -72,7 +72,6 @@ orElse (some ρ) o = some ρ
 
 -- the path from the place (i, j) to the end, f events away, that takes Q's event wherever a path to the end remains
 unfoldable pub path : Trace → ℕ → List ℕ → List ℕ → ℕ → ℕ → ℕ → Option (List ℕ)
-unfolding stepAt
 path t m P Q zero i j = some []
 path t m P Q (suc f) i j =
     let x = path t m P Q f i (suc j) in

@@ -17,7 +17,6 @@ brought base brings S k = base k || anyIn (λ j. brings j k) S
 
 -- after f rounds; the highest number first
 unfoldable pub rounds : ℕ → (ℕ → Bool) → (ℕ → ℕ → Bool) → ℕ → List ℕ
-unfolding brought
 rounds n base brings zero = []
 rounds n base brings (suc f) = keep (brought base brings (rounds n base brings f)) (upTo n)
 
