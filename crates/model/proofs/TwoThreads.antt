@@ -17,7 +17,7 @@ use Rattle.model.specs.Reordering.{Enabled}
 use Rattle.model.specs.Cone.{InCone, Earlier, root, earlier, observes, closes}
 use Rattle.model.specs.Race.{Candidate, Reported, Increasing, pair}
 use Rattle.model.specs.Extension.{Extension, PredictableInExtension}
-use Rattle.model.proofs.Tests.{by-cases, is-true, true-is, false-is, true-but, false-but}
+use Rattle.model.proofs.Tests.{by-cases, either-true, true-either, is-true, true-is, false-is, true-but, false-but}
 use Rattle.model.proofs.Lists.{mem-only, only-mem, keep-same, keep-reverse, mem-reverse, reverse-mem, increasing-reverse}
 use Rattle.model.proofs.Histories.{Legal, to-legal, of-legal, beginning, enabled-mem, mem-enabled, observed-range, legal-observed}
 use Rattle.model.proofs.Locks.{locked, legal-only}
@@ -31,11 +31,11 @@ among c d e = is c e || is d e
 
 among-true : (c d e : ℕ) → among c d e ≡ true → (e ≡ c) ⊎ (e ≡ d)
 unfolding among
-among-true c d e p = by-cases (is c e) (λ q. inl (is-true c e q)) (λ q. inr (is-true d e (rw q at p)))
+among-true c d e p = ⊎-elim (λ q. inl (is-true c e q)) (λ q. inr (is-true d e q)) (either-true (is c e) (is d e) p)
 
 true-among : (c d e : ℕ) → (e ≡ c) ⊎ (e ≡ d) → among c d e ≡ true
 unfolding among
-true-among c d e p = ⊎-elim (λ q. rw (true-is c e q)) (λ q. by-cases (is c e) (λ r. rw r) (λ r. rw r (true-is d e q))) p
+true-among c d e p = true-either (is c e) (is d e) (⊎-elim (λ q. inl (true-is c e q)) (λ q. inr (true-is d e q)) p)
 
 -- k stands before a or before b in its thread
 abbrev Near : Trace → ℕ → ℕ → ℕ → Type 0
