@@ -7,11 +7,11 @@ use Rattle.model.specs.Trace.{Trace, Valid, threadOf}
 use Rattle.model.specs.Lists.{_∈_, only, own, is, but}
 use Rattle.model.specs.Reordering.{EnabledAfter, BringsBoth}
 use Rattle.model.specs.Cone.{root}
-use Rattle.model.specs.Race.{Candidate, Preferred, Shown, Witness, Conflicting, pair}
+use Rattle.model.specs.Race.{Apart, Candidate, Preferred, Shown, Witness, Conflicting, pair}
 use Rattle.model.proofs.Tests.{by-cases, is-true, is-false, true-but, false-but}
 use Rattle.model.proofs.Lists.{mem-reverse, reverse-mem}
 use Rattle.model.proofs.Histories.{to-legal, enabled-by}
-use Rattle.model.proofs.Threads.{Apart, conflicting-apart, in-pair-a, in-pair-b}
+use Rattle.model.proofs.Threads.{conflicting-apart, in-pair-a, in-pair-b}
 
 not-both-ways : (t : Trace) (m : ℕ) (ρ τ : List ℕ) → Preferred t m ρ τ → Preferred t m τ ρ → ⊥
 not-both-ways t m [] τ f g = f

@@ -3,7 +3,7 @@ use Prim.Native.Nat.{ℕ, zero, suc, _≤_, _<_}
 use native.Mathlib.Omega.{arith}
 use mathlib.Core.Path.{_≡_, refl, sym, _∙_, ap, ap₂}
 use mathlib.Core.Logic.{_≢_, _⊎_, inl, inr, ⊎-elim, _↔_}
-use mathlib.Core.Bool.{Bool, true, _&&_, not}
+use mathlib.Core.Bool.{Bool, true, _&&_, not, false≢true}
 use mathlib.Core.Option.{Option, none, some}
 use mathlib.Core.List.{List, [], _∷_, List·Memᴰ·head, List·Memᴰ·tail, List·Memᴰ·not-nil}
 use lib.ListN.{length}
@@ -14,7 +14,7 @@ use Rattle.model.specs.Lists.{_∈_, before, numbers}
 use Rattle.model.specs.Good.{KnownKind, maxEvents, maxThread, maxObject, holder, Free, Held, Good}
 use Rattle.model.specs.Race.{Increasing}
 use Rattle.model.specs.Check.{isFree}
-use Rattle.model.specs.Refusals.{InLimits, EventRefusal, unknown-kind, thread-over, object-over, lock-held, not-holder, Refusal, FirstRefusal, eventRefusal, orNext, refusalIn, refusal}
+use Rattle.model.specs.Refusals.{InLimits, EventRefusal, unknown-kind, thread-over, object-over, lock-held, not-holder, Refusal, FirstRefusal, eventRefusal, orNext, refusalIn, refusal, isNone, isGood}
 use Rattle.model.proofs.Tests.{by-cases, in-cons, both, true-both, not-both, both-not, false-test, test-false}
 use Rattle.model.proofs.Lists.{mem-numbers, numbers-mem, increasing-numbers}
 use Rattle.model.proofs.CheckExact.{free-true, true-free}
@@ -228,3 +228,14 @@ module _ (t : Trace) where
           release-held = g .well-formed .given-back k v;
         }))),
   )
+
+  pub is-good-exactly : (isGood t ≡ true) ↔ Good t
+  unfolding isGood
+  is-good-exactly = (
+    (λ e. let p = both (leb (length t) maxEvents) (isNone (refusal t)) e in good-exactly (leb-true (length t) maxEvents (p .0)) .0 (none-here (refusal t) (p .1))),
+    (λ g. true-both (le-leb (length t) maxEvents (g .size)) (rw (good-exactly (g .size) .1 g))),
+  )
+    where
+      none-here : (o : Option Refusal) → isNone o ≡ true → o ≡ none
+      none-here none e = refl
+      none-here (some x) e = absurd (false≢true e)

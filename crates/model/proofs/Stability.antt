@@ -10,12 +10,12 @@ use Rattle.model.specs.Trace.{Trace, Valid, threadOf}
 use Rattle.model.specs.Lists.{_∈_, TwoThreads, but}
 use Rattle.model.specs.Reordering.{BringsBoth}
 use Rattle.model.specs.Cone.{InCone, Earlier, root, earlier, observes, closes}
-use Rattle.model.specs.Race.{Candidate, Reported, Preferred, Shown, Witness, pair}
+use Rattle.model.specs.Race.{Apart, Candidate, Reported, Preferred, Shown, Witness, pair}
 use Rattle.model.specs.Extension.{Extension}
 use Rattle.model.proofs.Lists.{mem-reverse}
 use Rattle.model.proofs.Histories.{to-legal, of-legal, observed-range}
 use Rattle.model.proofs.Agree.{Agree, Within, same-thread, same-kind, legal-agree, only-agree, observed-agree, extension-agree, extended-valid, extended-correct, extended-next}
-use Rattle.model.proofs.Threads.{Apart, in-pair-a, in-pair-b, pair-valid, two-threads}
+use Rattle.model.proofs.Threads.{in-pair-a, in-pair-b, pair-valid, two-threads}
 use Rattle.model.proofs.OneShown.{candidate-brings}
 
 -- u and v agree up to n, where all events are by the threads of a and b
@@ -125,7 +125,7 @@ module _ (t : Trace) (two : TwoThreads t) (a b : ℕ) (c : Apart t a b) (t′ : 
         (λ s. shown-agree t′ t (length t) a b down up (threadOf t a) ρ (rw (← e) at s)),
       )
 
--- any number of threads: what is shown for the trace brings both accesses next in each extension
+-- any number of threads: a candidate of the trace brings both accesses next in each extension
 pub candidate-stays : (t t′ : Trace) → Extension t t′ → (a b : ℕ) → Apart t a b → (m : ℕ) (ρ : List ℕ) → Candidate t (pair a b) m ρ → BringsBoth t′ ρ a b
 candidate-stays t t′ long a b c m ρ d =
     let x = candidate-brings t a b m ρ c d in record {

@@ -7,7 +7,7 @@ use mathlib.Core.List.{List, [], _∷_, List·Memᴰ·head, List·Memᴰ·tail, 
 use lib.ListN.{length, getD}
 use Rattle.model.specs.Trace.{Trace, Event, Valid, noEvent, threadOf}
 use Rattle.model.specs.Lists.{_∈_, Distinct, TwoThreads, listed, threads}
-use Rattle.model.specs.Race.{Conflicting, pair}
+use Rattle.model.specs.Race.{Conflicting, Apart, pair}
 use Rattle.model.proofs.Tests.{by-cases, in-cons, clash}
 use Rattle.model.proofs.Lists.{mem-listed, listed-mem}
 
@@ -65,12 +65,6 @@ in-pair-a a b = List·Memᴰ·head refl
 
 pub in-pair-b : (a b : ℕ) → b ∈ pair a b
 in-pair-b a b = List·Memᴰ·tail (List·Memᴰ·head refl)
-
--- two events of different threads
-pub record Apart (t : Trace) (a b : ℕ) : Type 0 where
-  pub first : Valid t a
-  pub second : Valid t b
-  pub apart : threadOf t a ≢ threadOf t b
 
 pub conflicting-apart : {t : Trace} {a b : ℕ} → Conflicting t a b → Apart t a b
 conflicting-apart c = record { first = c .first; second = c .second; apart = c .apart }

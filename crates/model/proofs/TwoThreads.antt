@@ -15,14 +15,14 @@ use Rattle.model.specs.Observed.{observed}
 use Rattle.model.specs.Good.{Good}
 use Rattle.model.specs.Reordering.{Enabled}
 use Rattle.model.specs.Cone.{InCone, Earlier, root, earlier, observes, closes}
-use Rattle.model.specs.Race.{Candidate, Reported, Increasing, pair}
+use Rattle.model.specs.Race.{Apart, Candidate, Reported, Increasing, pair}
 use Rattle.model.specs.Extension.{Extension, PredictableInExtension}
 use Rattle.model.proofs.Tests.{by-cases, either-true, true-either, is-true, true-is, false-is, true-but, false-but}
 use Rattle.model.proofs.Lists.{mem-only, only-mem, keep-same, keep-reverse, mem-reverse, reverse-mem, increasing-reverse}
 use Rattle.model.proofs.Histories.{Legal, to-legal, of-legal, beginning, enabled-mem, mem-enabled, observed-range, legal-observed}
 use Rattle.model.proofs.Locks.{locked, legal-only}
 use Rattle.model.proofs.Agree.{same-thread, legal-agree, extension-agree}
-use Rattle.model.proofs.Threads.{Apart, mem-pair, in-pair-a, in-pair-b, two-threads}
+use Rattle.model.proofs.Threads.{mem-pair, in-pair-a, in-pair-b, two-threads}
 use Rattle.model.proofs.OneShown.{candidate-brings}
 
 -- the set of two threads

@@ -1,8 +1,13 @@
 -- The paper's worked examples P to X, with what its rules say of them.
 use Prim.Native.Nat.{ℕ}
-use mathlib.Core.List.{List, [], _∷_}
+use mathlib.Core.Path.{_≡_}
+use mathlib.Core.List.{List, [], _∷_, List·Memᴰ}
+use lib.ListN.{length}
 use Rattle.model.specs.Trace.{Trace, Event, read, write, acquire, release}
-use Rattle.model.specs.Listing.{Race}
+use Rattle.model.specs.Lists.{threads}
+use Rattle.model.specs.Good.{Good}
+use Rattle.model.specs.Check.{CheckAnswer}
+use Rattle.model.specs.Listing.{Race, Listing}
 
 -- a list proposed for (a, b) and the check's answer, 0 for yes
 pub record Proposal : Type 0 where
@@ -16,6 +21,13 @@ pub record Example : Type 0 where
   pub threadCount : ℕ
   pub races : List Race
   pub proposals : List Proposal
+
+-- what the paper says of an example, by the rules
+pub record HoldsOf (e : Example) : Type 0 where
+  pub good : Good (e .trace)
+  pub count : length (threads (e .trace)) ≡ e .threadCount
+  pub listing : Listing (e .trace) (e .races)
+  pub answers : (p : Proposal) → List·Memᴰ p (e .proposals) → CheckAnswer (e .trace) (p .lower) (p .higher) (p .list) (p .answer)
 
 -- events by thread c
 abbrev r : ℕ → ℕ → Event
@@ -77,7 +89,12 @@ examples =
       proposals = proposal 2 4 (3 ∷ 1 ∷ []) 23 ∷ [];
     }
     -- V
-    ∷ record { trace = w 0 0 ∷ r 1 0 ∷ []; threadCount = 2; races = race 1 2 [] ∷ []; proposals = [] }
+    ∷ record {
+      trace = w 0 0 ∷ r 1 0 ∷ [];
+      threadCount = 2;
+      races = race 1 2 [] ∷ [];
+      proposals = proposal 1 2 [] 0 ∷ [];
+    }
     -- W
     ∷ record {
       trace = w 0 0 ∷ acq 2 0 ∷ w 2 1 ∷ r 2 0 ∷ rel 2 0 ∷ r 1 1 ∷ w 1 0 ∷ [];

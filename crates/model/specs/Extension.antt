@@ -6,7 +6,8 @@ use Rattle.model.specs.Trace.{Trace}
 use Rattle.model.specs.Good.{Good}
 use Rattle.model.specs.Reordering.{Predictable}
 
--- t′ extends t: the same events under the same numbers, then none or more after them, well-formed and within every limit
+-- t′ extends t: the same events under the same numbers, then none or more after them, well-formed and within every limit.
+-- (The preamble is free, so a file has room for as many events as a trace may have: the limit of its bytes asks nothing more.)
 pub record Extension (t t′ : Trace) : Type 0 where
   pub added : Trace
   pub same : t′ ≡ t ++ added

@@ -56,7 +56,7 @@ mayStep t m b hs ho rs ro k =
 abbrev pub passed : List ℕ → ℕ → List ℕ
 passed l i = reverse (take i l)
 
--- event i of the list b, l, may come where j events of the other list, o, were passed
+-- the event at place i, from 0, of the list b, l, may come where j events of the other list, o, were passed
 unfoldable pub stepAt : Trace → ℕ → Bool → List ℕ → List ℕ → ℕ → ℕ → Bool
 stepAt t m b l o i j = ltb i (length l) && mayStep t m b (passed l i) (passed o j) (drop (suc i) l) (drop j o) (getD l i 0)
 

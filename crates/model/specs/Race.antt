@@ -22,6 +22,12 @@ pub record Conflicting (t : Trace) (a b : ℕ) : Type 0 where
   pub cell : objectOf t a ≡ objectOf t b
   pub a-write : (kindOf t a ≡ write) ⊎ (kindOf t b ≡ write)
 
+-- two events of different threads: all that the two-thread theorems ask of a pair
+pub record Apart (t : Trace) (a b : ℕ) : Type 0 where
+  pub first : Valid t a
+  pub second : Valid t b
+  pub apart : threadOf t a ≢ threadOf t b
+
 -- numbers that grow from left to right: the trace's order
 abbrev pub Increasing : List ℕ → Type 0
 Increasing [] = Unit {0}
@@ -52,7 +58,7 @@ pub record Shown (t : Trace) (R : List ℕ) (m : ℕ) (ρ : List ℕ) : Type 0 w
 abbrev pub pair : ℕ → ℕ → List ℕ
 pair a b = a ∷ b ∷ []
 
--- reported
+-- reported (asked of a conflicting pair)
 abbrev pub Reported : Trace → ℕ → ℕ → Type 0
 Reported t a b = (ρ : List ℕ) × Candidate t (pair a b) (threadOf t a) ρ
 

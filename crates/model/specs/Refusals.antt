@@ -1,13 +1,14 @@
 -- Judging a trace event by event (refusals 5 to 9).
 use Prim.Native.Nat.{ℕ, zero, suc, _≤_, _<_}
 use mathlib.Core.Path.{_≡_}
-use mathlib.Core.Bool.{cond, _&&_, not}
+use mathlib.Core.Bool.{Bool, true, false, cond, _&&_, not}
 use mathlib.Core.Option.{Option, none, some}
 use mathlib.Core.List.{List, [], _∷_}
+use lib.ListN.{length}
 use lib.Dec.{eqb, leb}
 use Rattle.model.specs.Trace.{Trace, Valid, read, acquire, release, threadOf, kindOf, objectOf}
 use Rattle.model.specs.Lists.{before, numbers}
-use Rattle.model.specs.Good.{KnownKind, maxThread, maxObject, holder, Free, Held}
+use Rattle.model.specs.Good.{KnownKind, maxEvents, maxThread, maxObject, holder, Free, Held}
 use Rattle.model.specs.Check.{isFree}
 
 -- ---- what each number means
@@ -58,3 +59,10 @@ refusalIn t (k ∷ l) = orNext (eventRefusal t k) k (refusalIn t l)
 
 unfoldable pub refusal : Trace → Option Refusal
 refusal t = refusalIn t (numbers t)
+
+abbrev pub isNone : Option Refusal → Bool
+isNone none = true
+isNone (some x) = false
+
+unfoldable pub isGood : Trace → Bool
+isGood t = leb (length t) maxEvents && isNone (refusal t)

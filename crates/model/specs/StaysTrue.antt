@@ -12,7 +12,7 @@ use Rattle.model.specs.Extension.{PredictableInExtension}
 use Rattle.model.specs.Check.{check}
 use Rattle.model.specs.Decision.{witness}
 
--- at most two threads have an event in t
+-- claimed where at most two threads have an event in t
 pub record ExactAndSteady (t t′ : Trace) (a b : ℕ) : Type 0 where
   -- reported exactly when some correct reordering, of the trace or of any of its extensions, brings both accesses next
   pub exact : Reported t a b ↔ PredictableInExtension t a b
@@ -23,7 +23,7 @@ pub record ExactAndSteady (t t′ : Trace) (a b : ℕ) : Type 0 where
   pub exact-answer : ((ρ : List ℕ) × (witness t a b ≡ some ρ)) ↔ PredictableInExtension t a b
   pub same-answer : witness t′ a b ≡ witness t a b
 
--- any number of threads
+-- claimed for any number of threads
 pub record StaysTrue (t t′ : Trace) (a b : ℕ) : Type 0 where
   pub two-threads : TwoThreads t → ExactAndSteady t t′ a b
   -- a witness of t is in t′ a correct reordering that brings both accesses next, and the check says yes to it there
