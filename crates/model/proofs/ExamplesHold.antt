@@ -11,7 +11,6 @@ use Rattle.model.specs.Lists.{listed, is, but, threads}
 use Rattle.model.specs.Observed.{observed}
 use Rattle.model.specs.Cone.{givesBack, matching}
 use Rattle.model.specs.Check.{sameList, isValid, isNext, isSeen, isFree, placeFault, faultFrom, isEnabled, check}
-use Rattle.model.specs.Listing.{Race, Listing}
 use Rattle.model.specs.Refusals.{eventRefusal, refusalIn, refusal, isGood}
 use Rattle.model.specs.Rounds.{brought, rounds, isEarlier, isRooted, isObserved, isExempt, isClosing, brings, cone}
 use Rattle.model.specs.Grid.{sawOther, sawNone, readStep, writeStep, lockStep, mayStep, stepAt, path}

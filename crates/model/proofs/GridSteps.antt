@@ -13,7 +13,7 @@ use Rattle.model.specs.Observed.{lastWrite, observed}
 use Rattle.model.specs.Good.{Free, WellFormed}
 use Rattle.model.specs.Reordering.{Enabled, Sees, Step, Correct, CorrectFrom}
 use Rattle.model.specs.Check.{isFree}
-use Rattle.model.specs.Grid.{side, sawOther, sawNone, pendingPass, readStep, writeStep, lockStep, mayStep, stepIn, Passes}
+use Rattle.model.specs.Grid.{side, sawOther, sawNone, pendingPass, readStep, writeStep, lockStep, mayStep}
 use Rattle.model.proofs.Tests.{by-cases, in-cons, clash, both, true-both, is-true, is-false, but-true, true-but, false-but, false-is, does-true, true-does, false-does}
 use Rattle.model.proofs.Lists.{mem-only, mem-listed, listed-mem}
 use Rattle.model.proofs.Histories.{Legal, enabled-out, lastWrite-mem, lastWrite-kept}
@@ -81,6 +81,17 @@ module _ (t : Trace) (m : ℕ) (b : Bool) (hs ho rs ro : List ℕ) (k : ℕ) whe
       by-cases (eqb (kindOf t k) read) (λ r. rw r (f (eqb-true _ _ r))) (λ r.
       by-cases (eqb (kindOf t k) write) (λ w. rw (r, w) (g (eqb-true _ _ w))) (λ w.
       by-cases (eqb (kindOf t k) acquire) (λ l. rw (r, w, l) (h (eqb-true _ _ l))) (λ l. rw (r, w, l))))
+
+-- ---- the tests along a merge, by what was passed and what is left
+
+unfoldable pub stepIn : Trace → ℕ → List ℕ → ℕ → List ℕ → Bool
+stepIn t m h k τ =
+    let b = is m (threadOf t k) in
+    mayStep t m b (only t (side m b) h) (only t (side m (not b)) h) (only t (side m b) τ) (only t (side m (not b)) τ) k
+
+abbrev pub Walk : Trace → ℕ → List ℕ → List ℕ → Type 0
+Walk t m h [] = Unit {0}
+Walk t m h (k ∷ τ) = (stepIn t m h k τ ≡ true) × Walk t m (k ∷ h) τ
 
 -- ---- reads ahead
 
@@ -183,7 +194,7 @@ module _ (t : Trace) (m : ℕ) where
         let f = c .0 .free r in
         true-both (true-free t _ k (free-only t (side m b) h d k f)) (true-free t _ k (free-only t (side m (not b)) h d k f))
 
-  correct-passes : WellFormed t → (h τ : List ℕ) → Legal t h → CorrectFrom t h τ → Passes t m h τ
+  correct-passes : WellFormed t → (h τ : List ℕ) → Legal t h → CorrectFrom t h τ → Walk t m h τ
   unfolding stepIn
   correct-passes w h [] l c = tt
   correct-passes w h (k ∷ τ) l c =
@@ -304,7 +315,7 @@ module _ (t : Trace) (m : ℕ) where
       free = λ r. let z = lock-passed r in free-parts t (side m b) (side m (not b)) (side-flip m b) h (locked t w h l) k (z .0) (z .1);
     }
 
-  passes-correct : WellFormed t → (h τ : List ℕ) → Legal t h → ((x : ℕ) (c : Bool) → Ahead h τ x c) → Fit h τ → Passes t m h τ → CorrectFrom t h τ
+  passes-correct : WellFormed t → (h τ : List ℕ) → Legal t h → ((x : ℕ) (c : Bool) → Ahead h τ x c) → Fit h τ → Walk t m h τ → CorrectFrom t h τ
   unfolding stepIn
   passes-correct w h [] l i f p = tt
   passes-correct w h (k ∷ τ) l i f p =
@@ -314,5 +325,5 @@ module _ (t : Trace) (m : ℕ) where
       (st, passes-correct w (k ∷ h) τ (st, l) (ahead-next h k τ b s (p .0) i) (f .2) (p .1))
 
   -- correct exactly when every step passes
-  pub passes-exactly : WellFormed t → (τ : List ℕ) → Fit [] τ → Correct t τ ↔ Passes t m [] τ
-  passes-exactly w τ f = (correct-passes t m w [] τ tt, passes-correct w [] τ tt (λ x b j u r. ((λ p. refl), (λ p q. q))) f)
+  pub walk-exactly : WellFormed t → (τ : List ℕ) → Fit [] τ → Correct t τ ↔ Walk t m [] τ
+  walk-exactly w τ f = (correct-passes t m w [] τ tt, passes-correct w [] τ tt (λ x b j u r. ((λ p. refl), (λ p q. q))) f)

@@ -2,7 +2,7 @@
 use Prim.Native.Nat.{ℕ, zero, suc, _+_, _-_, _≤_, _<_}
 use native.Mathlib.Omega.{arith}
 use mathlib.Core.Path.{_≡_, refl, sym, _∙_, ap}
-use mathlib.Core.Logic.{_⊎_, inl, inr, ⊎-elim}
+use mathlib.Core.Logic.{_⊎_, inl, inr, ⊎-elim, _↔_}
 use mathlib.Core.Bool.{Bool, true, false, not}
 use mathlib.Core.Option.{Option, none, some}
 use mathlib.Core.List.{List, [], _∷_, reverse, reverse-append, nil≢cons, List·Memᴰ·head, List·Memᴰ·tail}
@@ -13,9 +13,9 @@ use borrow.Author.Tests.{ltb-true, lt-ltb}
 use Rattle.model.specs.Trace.{Trace, threadOf}
 use Rattle.model.specs.Lists.{_∈_, only, is}
 use Rattle.model.specs.Race.{Preferred}
-use Rattle.model.specs.Grid.{side, mayStep, passed, stepAt, after, orElse, path, stepIn, Passes}
-use Rattle.model.proofs.Tests.{by-cases, clash, both, true-both, is-true, is-false, false-is, but-true, true-but}
-use Rattle.model.proofs.GridSteps.{side-other}
+use Rattle.model.specs.Grid.{side, mayStep, passed, stepAt, after, orElse, path, Passes}
+use Rattle.model.proofs.Tests.{by-cases, clash, both, is-true, is-false, false-is, but-true, true-but}
+use Rattle.model.proofs.GridSteps.{side-other, stepIn, Walk}
 
 getD-mem : (l : List ℕ) (i : ℕ) → i < length l → getD l i 0 ∈ l
 getD-mem [] i p = absurd (omega arith)
@@ -81,7 +81,7 @@ module _ (t : Trace) (m : ℕ) where
 pub record Merge (t : Trace) (m : ℕ) (b : Bool) (h l o τ : List ℕ) : Type 0 where
   pub own-side : only t (side m b) τ ≡ l
   pub other-side : only t (side m (not b)) τ ≡ o
-  pub passes : Passes t m h τ
+  pub passes : Walk t m h τ
 
 merge-flip : (t : Trace) (m : ℕ) (h P Q τ : List ℕ) → Merge t m true h P Q τ → Merge t m false h Q P τ
 merge-flip t m h P Q τ x = record { own-side = x .other-side; other-side = x .own-side; passes = x .passes }
@@ -135,17 +135,35 @@ module _ (t : Trace) (m : ℕ) (b : Bool) (l o : List ℕ) (mine : (k : ℕ) →
         passes = (step-same r (s .0) (y .own-side) (y .other-side) ∙ s .1, y .passes);
       })
 
-  merge-lead : (k : ℕ) (τ : List ℕ) → side m b (threadOf t k) ≡ true → Merge t m b h (drop i l) (drop j o) (k ∷ τ) → Leads (k ∷ τ)
+  -- an event of the side stands at the place, and its test is that of the place
+  record AtPlace (k : ℕ) (τ : List ℕ) : Type 0 where
+    event : k ≡ getD l i 0
+    inside : i < length l
+    own-left : only t (side m b) τ ≡ drop (suc i) l
+    other-left : only t (side m (not b)) τ ≡ drop j o
+    test : stepIn t m h k τ ≡ stepAt t m b l o i j
+
+  at-place : (k : ℕ) (τ : List ℕ) → side m b (threadOf t k) ≡ true → only t (side m b) (k ∷ τ) ≡ drop i l → only t (side m (not b)) (k ∷ τ) ≡ drop j o → AtPlace k τ
   unfolding stepAt
+  at-place k τ s p q =
+      let z = drop-head l i k (only t (side m b) τ) (rw s at p) in
+      let u : only t (side m (not b)) τ ≡ drop j o = rw (side-other m b (threadOf t k) s) at q in
+      let e : k ≡ getD l i 0 = sym (z .1) in record {
+        event = e;
+        inside = z .0;
+        own-left = sym (z .2);
+        other-left = u;
+        test = rw (lt-ltb i (length l) (z .0)) (ap (λ (y : ℕ). stepIn t m h y τ) e ∙ step-same τ (z .0) (sym (z .2)) u);
+      }
+
+  merge-lead : (k : ℕ) (τ : List ℕ) → side m b (threadOf t k) ≡ true → Merge t m b h (drop i l) (drop j o) (k ∷ τ) → Leads (k ∷ τ)
   merge-lead k τ s x =
-      let z = drop-head l i k (only t (side m b) τ) (rw s at (x .own-side)) in
-      let u : only t (side m (not b)) τ ≡ drop j o = rw (side-other m b (threadOf t k) s) at (x .other-side) in
-      let e : k ≡ getD l i 0 = sym (z .1) in
-      let p : stepIn t m h (getD l i 0) τ ≡ true = rw e at (x .passes .0) in (
+      let z = at-place k τ s (x .own-side) (x .other-side) in
+      let e = z .event in (
         τ,
         ap (λ (y : ℕ). y ∷ τ) e,
-        true-both (lt-ltb i (length l) (z .0)) (sym (step-same τ (z .0) (sym (z .2)) u) ∙ p),
-        record { own-side = sym (z .2); other-side = u; passes = rw e at (x .passes .1) },
+        sym (z .test) ∙ x .passes .0,
+        record { own-side = z .own-left; other-side = z .other-left; passes = rw e at (x .passes .1) },
       )
 
 -- ---- the search
@@ -156,6 +174,24 @@ module _ (t : Trace) (m : ℕ) (P Q : List ℕ) (moved : (k : ℕ) → k ∈ P �
 
   turn-back : (i j : ℕ) (h : List ℕ) → Reached t m false Q P j i h → Reached t m true P Q i j h
   turn-back i j h at = record { own-passed = at .other-passed; other-passed = at .own-passed }
+
+  -- the tests along a merge are those of the places that it goes through
+  pub walk-places : (τ h : List ℕ) (i j : ℕ) → Reached t m true P Q i j h → only t (side m true) τ ≡ drop i P → only t (side m false) τ ≡ drop j Q
+      → Walk t m h τ ↔ Passes t m P Q i j τ
+  walk-places [] h i j at p q = ((λ w. tt), (λ w. tt))
+  walk-places (k ∷ τ) h i j at p q =
+      by-cases (is m (threadOf t k))
+      (λ s.
+      let z = at-place t m true P Q moved i j h at k τ s p q in
+      let e = z .event in
+      let ih = walk-places τ (k ∷ h) (suc i) j (rw e (next-reached t m true P Q moved i j h at (z .inside))) (z .own-left) (z .other-left) in
+      rw s ((λ w. (sym (z .test) ∙ w .0, ih .0 (w .1))), (λ w. (z .test ∙ w .0, ih .1 (w .1)))))
+      (λ s.
+      let z = at-place t m false Q P others j i h (turn i j h at) k τ (true-but m (threadOf t k) (is-false m (threadOf t k) s)) q p in
+      let e = z .event in
+      let r : Reached t m false Q P (suc j) i (k ∷ h) = rw e (next-reached t m false Q P others j i h (turn i j h at) (z .inside)) in
+      let ih = walk-places τ (k ∷ h) i (suc j) (turn-back i (suc j) (k ∷ h) r) (z .other-left) (z .own-left) in
+      rw s ((λ w. (sym (z .test) ∙ w .0, ih .0 (w .1))), (λ w. (z .test ∙ w .0, ih .1 (w .1)))))
 
   module _ (i j : ℕ) (h : List ℕ) (at : Reached t m true P Q i j h) where
     abbrev LeadsP : List ℕ → Type 0

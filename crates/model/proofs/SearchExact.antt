@@ -23,8 +23,8 @@ use Rattle.model.proofs.Tests.{by-cases, clash, both, true-both, is-tru
 use Rattle.model.proofs.Lists.{mem-keep, keep-mem, keep-keep, keep-reverse, keep-reverseAux, behind, mem-only, only-mem, own-only, mem-listed, listed-mem, any-mem, mem-any, mem-before, mem-reverse, reverse-mem, increasing-keep, increasing-unique}
 use Rattle.model.proofs.Histories.{own-increasing, lastWrite-kept}
 use Rattle.model.proofs.ConeExact.{cone-valid, cone-exactly, cone-made, cone-increasing}
-use Rattle.model.proofs.GridSteps.{side-own, saw-false, Fit, passes-exactly}
-use Rattle.model.proofs.Merges.{BestOf, best-map, best-none, Merge, best-path}
+use Rattle.model.proofs.GridSteps.{side-own, saw-false, Walk, Fit, walk-exactly}
+use Rattle.model.proofs.Merges.{BestOf, best-map, best-none, Merge, Reached, walk-places, best-path}
 use Rattle.model.proofs.OneShown.{shown-unique, same-sides}
 
 only-keep : (t : Trace) (s g : ℕ → Bool) (l : List ℕ) → only t s (keep g l) ≡ keep (λ k. g k && s (threadOf t k)) l
@@ -102,9 +102,30 @@ module _ (t : Trace) (R : List ℕ) (m : ℕ) (v : (r : ℕ) → r ∈ R → Val
       keep-reverse (λ k. side m b (threadOf t k)) ρ ∙ ap reverse (same b ∙ ap (only t (side m b)) (c .1)) ∙ sym (keep-reverse (λ k. side m b (threadOf t k)) (reverse l))
       ∙ ap (only t (side m b)) (reverse-reverse l) ∙ only-keep t (side m b) (c .0) (upTo (length t)))
 
-  -- a merge of the cone's events is correct exactly when every step passes its test
-  pub merge-correct-exactly : WellFormed t → (ρ : List ℕ) → MergeOf t m (cone t R) ρ → Correct t ρ ↔ Passes t m [] ρ
-  merge-correct-exactly w ρ same = passes-exactly t m w ρ (merge-fit ρ same)
+  merge-walk : WellFormed t → (ρ : List ℕ) → MergeOf t m (cone t R) ρ → Correct t ρ ↔ Walk t m [] ρ
+  merge-walk w ρ same = walk-exactly t m w ρ (merge-fit ρ same)
+
+  abbrev P : List ℕ
+  P = own t m (cone t R)
+
+  abbrev Q : List ℕ
+  Q = only t (but m) (cone t R)
+
+  in-P : (k : ℕ) → k ∈ P → side m true (threadOf t k) ≡ true
+  in-P k x = mem-only t (side m true) k (cone t R) x .1
+
+  in-Q : (k : ℕ) → k ∈ Q → side m false (threadOf t k) ≡ true
+  in-Q k x = mem-only t (side m false) k (cone t R) x .1
+
+  start : Reached t m true P Q 0 0 []
+  start = record { own-passed = refl; other-passed = refl }
+
+  -- a merge of the cone's events is correct exactly when every step passes its test on the grid
+  pub merge-correct-exactly : WellFormed t → (ρ : List ℕ) → MergeOf t m (cone t R) ρ → Correct t ρ ↔ Passes t m (own t m (cone t R)) (only t (but m) (cone t R)) 0 0 ρ
+  merge-correct-exactly w ρ same =
+      let x = merge-walk w ρ same in
+      let y = walk-places t m P Q in-P in-Q ρ [] 0 0 start (same true) (same false) in
+      ((λ c. y .0 (x .0 c)), (λ p. x .1 (y .1 p)))
 
   -- ---- candidates are such merges
 
@@ -133,16 +154,10 @@ module _ (t : Trace) (R : List ℕ) (m : ℕ) (v : (r : ℕ) → r ∈ R → Val
       mem-only t (side m b) k r (rw (same b) at y) .0
 
   module _ (w : WellFormed t) where
-    abbrev P : List ℕ
-    P = own t m (cone t R)
-
-    abbrev Q : List ℕ
-    Q = only t (but m) (cone t R)
-
     candidate-merge : (ρ : List ℕ) → Candidate t R m ρ → Merge t m true [] P Q ρ
     candidate-merge ρ c =
         let same = candidate-sides ρ c in
-        record { own-side = same true; other-side = same false; passes = merge-correct-exactly w ρ same .0 (c .correct) }
+        record { own-side = same true; other-side = same false; passes = merge-walk w ρ same .0 (c .correct) }
 
     merge-sides : (ρ : List ℕ) → Merge t m true [] P Q ρ → MergeOf t m (cone t R) ρ
     merge-sides ρ x true = x .own-side
@@ -152,7 +167,7 @@ module _ (t : Trace) (R : List ℕ) (m : ℕ) (v : (r : ℕ) → r ∈ R → Val
     merge-candidate out ρ x =
         let same = merge-sides ρ x in record {
           roots-out = out;
-          correct = merge-correct-exactly w ρ same .1 (x .passes);
+          correct = merge-walk w ρ same .1 (x .passes);
           members = λ k. (
             (λ y. cone-exactly t R v k .0 (same-members ρ (cone t R) same k y)),
             (λ y. same-members (cone t R) ρ (λ b. sym (same b)) k (cone-exactly t R v k .1 y)),
@@ -172,8 +187,7 @@ module _ (t : Trace) (R : List ℕ) (m : ℕ) (v : (r : ℕ) → r ∈ R → Val
         (λ e.
         let out : (r : ℕ) → r ∈ R → ¬ InCone t R r = λ r x y. clash (any-mem (λ r. listed r (cone t R)) x (mem-listed (cone-exactly t R v r .1 y))) e in
         rw e (best-map t m (Merge t m true [] P Q) (Candidate t R m) (merge-candidate out) candidate-merge _
-        (best-path t m P Q (λ k x. mem-only t (side m true) k (cone t R) x .1) (λ k x. mem-only t (side m false) k (cone t R) x .1)
-        (length P + length Q) 0 0 [] (record { own-passed = refl; other-passed = refl }) zero-le zero-le (omega arith))))
+        (best-path t m P Q in-P in-Q (length P + length Q) 0 0 [] start zero-le zero-le (omega arith))))
 
     some-shown : (o : Option (List ℕ)) → BestOf t m (Candidate t R m) o → (ρ : List ℕ) → o ≡ some ρ → Shown t R m ρ
     unfolding BestOf

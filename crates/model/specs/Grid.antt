@@ -60,6 +60,11 @@ passed l i = reverse (take i l)
 unfoldable pub stepAt : Trace → ℕ → Bool → List ℕ → List ℕ → ℕ → ℕ → Bool
 stepAt t m b l o i j = ltb i (length l) && mayStep t m b (passed l i) (passed o j) (drop (suc i) l) (drop j o) (getD l i 0)
 
+-- the test of the next event of P (true) or of Q (false) at the place (i, j)
+abbrev pub stepFrom : Trace → ℕ → List ℕ → List ℕ → Bool → ℕ → ℕ → Bool
+stepFrom t m P Q true i j = stepAt t m true P Q i j
+stepFrom t m P Q false i j = stepAt t m false Q P j i
+
 -- k and then what was found, where k may come
 abbrev pub after : Bool → ℕ → Option (List ℕ) → Option (List ℕ)
 after false k o = none
@@ -76,8 +81,8 @@ path t m P Q zero i j = some []
 path t m P Q (suc f) i j =
     let x = path t m P Q f i (suc j) in
     let y = path t m P Q f (suc i) j in
-    let q = after (stepAt t m false Q P j i) (getD Q j 0) x in
-    let p = after (stepAt t m true P Q i j) (getD P i 0) y in
+    let q = after (stepFrom t m P Q false i j) (getD Q j 0) x in
+    let p = after (stepFrom t m P Q true i j) (getD P i 0) y in
     orElse q p
 
 -- ---- the tests along a merge
@@ -86,13 +91,9 @@ path t m P Q (suc f) i j =
 abbrev pub MergeOf : Trace → ℕ → List ℕ → List ℕ → Type 0
 MergeOf t m c ρ = (b : Bool) → only t (side m b) ρ ≡ only t (side m b) c
 
--- the test of event k after the history h of a merge, where τ is left after it
-unfoldable pub stepIn : Trace → ℕ → List ℕ → ℕ → List ℕ → Bool
-stepIn t m h k τ =
+-- every step of ρ from the place (i, j) on passes its test
+abbrev pub Passes : Trace → ℕ → List ℕ → List ℕ → ℕ → ℕ → List ℕ → Type 0
+Passes t m P Q i j [] = Unit {0}
+Passes t m P Q i j (k ∷ ρ) =
     let b = is m (threadOf t k) in
-    mayStep t m b (only t (side m b) h) (only t (side m (not b)) h) (only t (side m b) τ) (only t (side m (not b)) τ) k
-
--- every step of a merge passes its test
-abbrev pub Passes : Trace → ℕ → List ℕ → List ℕ → Type 0
-Passes t m h [] = Unit {0}
-Passes t m h (k ∷ τ) = (stepIn t m h k τ ≡ true) × Passes t m (k ∷ h) τ
+    (stepFrom t m P Q b i j ≡ true) × Passes t m P Q (cond b (suc i) i) (cond b j (suc j)) ρ
