@@ -83,11 +83,11 @@ pub record Merge (t : Trace) (m : ℕ) (b : Bool) (h l o τ : List ℕ) : Type 0
   pub other-side : only t (side m (not b)) τ ≡ o
   pub passes : Walk t m h τ
 
-merge-flip : (t : Trace) (m : ℕ) (h P Q τ : List ℕ) → Merge t m true h P Q τ → Merge t m false h Q P τ
-merge-flip t m h P Q τ x = record { own-side = x .other-side; other-side = x .own-side; passes = x .passes }
-
-flip-merge : (t : Trace) (m : ℕ) (h P Q τ : List ℕ) → Merge t m false h Q P τ → Merge t m true h P Q τ
-flip-merge t m h P Q τ x = record { own-side = x .other-side; other-side = x .own-side; passes = x .passes }
+merge-flip : (t : Trace) (m : ℕ) (h P Q τ : List ℕ) → Merge t m true h P Q τ ↔ Merge t m false h Q P τ
+merge-flip t m h P Q τ = (
+  (λ x. record { own-side = x .other-side; other-side = x .own-side; passes = x .passes }),
+  (λ x. record { own-side = x .other-side; other-side = x .own-side; passes = x .passes }),
+)
 
 -- a history has passed i events of l and j of o
 pub record Reached (t : Trace) (m : ℕ) (b : Bool) (l o : List ℕ) (i j : ℕ) (h : List ℕ) : Type 0 where
@@ -169,11 +169,8 @@ module _ (t : Trace) (m : ℕ) (b : Bool) (l o : List ℕ) (mine : (k : ℕ) →
 -- ---- the search
 
 module _ (t : Trace) (m : ℕ) (P Q : List ℕ) (moved : (k : ℕ) → k ∈ P → side m true (threadOf t k) ≡ true) (others : (k : ℕ) → k ∈ Q → side m false (threadOf t k) ≡ true) where
-  turn : (i j : ℕ) (h : List ℕ) → Reached t m true P Q i j h → Reached t m false Q P j i h
-  turn i j h at = record { own-passed = at .other-passed; other-passed = at .own-passed }
-
-  turn-back : (i j : ℕ) (h : List ℕ) → Reached t m false Q P j i h → Reached t m true P Q i j h
-  turn-back i j h at = record { own-passed = at .other-passed; other-passed = at .own-passed }
+  turn : (i j : ℕ) (h : List ℕ) → Reached t m true P Q i j h ↔ Reached t m false Q P j i h
+  turn i j h = ((λ at. record { own-passed = at .other-passed; other-passed = at .own-passed }), (λ at. record { own-passed = at .other-passed; other-passed = at .own-passed }))
 
   -- the tests along a merge are those of the places that it goes through
   pub walk-places : (τ h : List ℕ) (i j : ℕ) → Reached t m true P Q i j h → only t (side m true) τ ≡ drop i P → only t (side m false) τ ≡ drop j Q
@@ -187,10 +184,10 @@ module _ (t : Trace) (m : ℕ) (P Q : List ℕ) (moved : (k : ℕ) → k ∈ P �
       let ih = walk-places τ (k ∷ h) (suc i) j (rw e (next-reached t m true P Q moved i j h at (z .inside))) (z .own-left) (z .other-left) in
       rw s ((λ w. (sym (z .test) ∙ w .0, ih .0 (w .1))), (λ w. (z .test ∙ w .0, ih .1 (w .1)))))
       (λ s.
-      let z = at-place t m false Q P others j i h (turn i j h at) k τ (true-but m (threadOf t k) (is-false m (threadOf t k) s)) q p in
+      let z = at-place t m false Q P others j i h (turn i j h .0 at) k τ (true-but m (threadOf t k) (is-false m (threadOf t k) s)) q p in
       let e = z .event in
-      let r : Reached t m false Q P (suc j) i (k ∷ h) = rw e (next-reached t m false Q P others j i h (turn i j h at) (z .inside)) in
-      let ih = walk-places τ (k ∷ h) i (suc j) (turn-back i (suc j) (k ∷ h) r) (z .other-left) (z .own-left) in
+      let r : Reached t m false Q P (suc j) i (k ∷ h) = rw e (next-reached t m false Q P others j i h (turn i j h .0 at) (z .inside)) in
+      let ih = walk-places τ (k ∷ h) i (suc j) (turn i (suc j) (k ∷ h) .1 r) (z .other-left) (z .own-left) in
       rw s ((λ w. (sym (z .test) ∙ w .0, ih .0 (w .1))), (λ w. (z .test ∙ w .0, ih .1 (w .1)))))
 
   module _ (i j : ℕ) (h : List ℕ) (at : Reached t m true P Q i j h) where
@@ -198,21 +195,21 @@ module _ (t : Trace) (m : ℕ) (P Q : List ℕ) (moved : (k : ℕ) → k ∈ P �
     LeadsP = Leads t m true P Q moved i j h at
 
     abbrev LeadsQ : List ℕ → Type 0
-    LeadsQ = Leads t m false Q P others j i h (turn i j h at)
+    LeadsQ = Leads t m false Q P others j i h (turn i j h .0 at)
 
     -- a merge that is not at its end begins with an event of one list or of the other
     begins : (k : ℕ) (τ : List ℕ) → Merge t m true h (drop i P) (drop j Q) (k ∷ τ) → LeadsQ (k ∷ τ) ⊎ LeadsP (k ∷ τ)
     begins k τ x =
         by-cases (is m (threadOf t k))
         (λ e. inr (merge-lead t m true P Q moved i j h at k τ e x))
-        (λ e. inl (merge-lead t m false Q P others j i h (turn i j h at) k τ (true-but m (threadOf t k) (is-false m (threadOf t k) e)) (merge-flip t m h (drop i P) (drop j Q) (k ∷ τ) x)))
+        (λ e. inl (merge-lead t m false Q P others j i h (turn i j h .0 at) k τ (true-but m (threadOf t k) (is-false m (threadOf t k) e)) (merge-flip t m h (drop i P) (drop j Q) (k ∷ τ) .0 x)))
 
     prefers : (ρ τ : List ℕ) → LeadsQ ρ → LeadsP τ → Preferred t m ρ τ
     prefers ρ τ x y =
         let p = step-inside t m true P Q moved i j h at (y .2) .0 in
-        let q = step-inside t m false Q P others j i h (turn i j h at) (x .2) .0 in
+        let q = step-inside t m false Q P others j i h (turn i j h .0 at) (x .2) .0 in
         rw (x .1, y .1) (inr (
-          but-true m (threadOf t (getD Q j 0)) (here t m false Q P others j i h (turn i j h at) q),
+          but-true m (threadOf t (getD Q j 0)) (here t m false Q P others j i h (turn i j h .0 at) q),
           is-true m (threadOf t (getD P i 0)) (here t m true P Q moved i j h at p),
         ))
 
@@ -227,7 +224,7 @@ module _ (t : Trace) (m : ℕ) (P Q : List ℕ) (moved : (k : ℕ) → k ∈ P �
     ends p q [] x = refl
     ends p q (k ∷ τ) x =
         ⊎-elim
-        (λ y. let z = step-inside t m false Q P others j i h (turn i j h at) (y .2) .0 in absurd (omega arith))
+        (λ y. let z = step-inside t m false Q P others j i h (turn i j h .0 at) (y .2) .0 in absurd (omega arith))
         (λ y. let z = step-inside t m true P Q moved i j h at (y .2) .0 in absurd (omega arith))
         (begins k τ x)
 
@@ -241,13 +238,13 @@ module _ (t : Trace) (m : ℕ) (P Q : List ℕ) (moved : (k : ℕ) → k ∈ P �
       (record { own-side = sym (drop-of-length-le P P-end); other-side = sym (drop-of-length-le Q Q-end); passes = tt }) (ends i j h at P-end Q-end)
   best-path (suc f) i j h at p q e =
       best-or t m (LeadsQ i j h at) (LeadsP i j h at) (Merge t m true h (drop i P) (drop j Q))
-      (λ τ x. flip-merge t m h (drop i P) (drop j Q) τ (lead-merge t m false Q P others j i h (turn i j h at) τ x))
+      (λ τ x. merge-flip t m h (drop i P) (drop j Q) τ .1 (lead-merge t m false Q P others j i h (turn i j h .0 at) τ x))
       (lead-merge t m true P Q moved i j h at) (goes-on i j h at (omega arith)) (prefers i j h at) _ _
       (best-lead t m (stepAt t m false Q P j i) (getD Q j 0) _ _ (λ ok.
-      let l = step-inside t m false Q P others j i h (turn i j h at) ok .0 in
+      let l = step-inside t m false Q P others j i h (turn i j h .0 at) ok .0 in
       best-map t m (Merge t m true (getD Q j 0 ∷ h) (drop i P) (drop (suc j) Q)) (Merge t m false (getD Q j 0 ∷ h) (drop (suc j) Q) (drop i P))
-      (merge-flip t m (getD Q j 0 ∷ h) (drop i P) (drop (suc j) Q)) (flip-merge t m (getD Q j 0 ∷ h) (drop i P) (drop (suc j) Q)) _
-      (best-path f i (suc j) (getD Q j 0 ∷ h) (turn-back i (suc j) (getD Q j 0 ∷ h) (next-reached t m false Q P others j i h (turn i j h at) l)) p l (omega arith))))
+      (λ τ x. merge-flip t m (getD Q j 0 ∷ h) (drop i P) (drop (suc j) Q) τ .0 x) (λ τ x. merge-flip t m (getD Q j 0 ∷ h) (drop i P) (drop (suc j) Q) τ .1 x) _
+      (best-path f i (suc j) (getD Q j 0 ∷ h) (turn i (suc j) (getD Q j 0 ∷ h) .1 (next-reached t m false Q P others j i h (turn i j h .0 at) l)) p l (omega arith))))
       (best-lead t m (stepAt t m true P Q i j) (getD P i 0) _ _ (λ ok.
       let l = step-inside t m true P Q moved i j h at ok .0 in
       best-path f (suc i) j (getD P i 0 ∷ h) (next-reached t m true P Q moved i j h at l) l q (omega arith)))

@@ -11,7 +11,7 @@ use Rattle.model.specs.Race.{Apart, Candidate, Preferred, Shown, Witness
 use Rattle.model.proofs.Tests.{by-cases, is-true, is-false, true-but, false-but}
 use Rattle.model.proofs.Lists.{mem-reverse, reverse-mem}
 use Rattle.model.proofs.Histories.{to-legal, enabled-by}
-use Rattle.model.proofs.Threads.{conflicting-apart, in-pair-a, in-pair-b}
+use Rattle.model.proofs.Threads.{in-pair-a, in-pair-b}
 
 not-both-ways : (t : Trace) (m : ℕ) (ρ τ : List ℕ) → Preferred t m ρ τ → Preferred t m τ ρ → ⊥
 not-both-ways t m [] τ f g = f
@@ -77,4 +77,4 @@ candidate-brings t a b m ρ c d = record {
 }
 
 pub witness-brings-both : (t : Trace) (a b : ℕ) (ρ : List ℕ) → Conflicting t a b → Witness t a b ρ → BringsBoth t ρ a b
-witness-brings-both t a b ρ c s = candidate-brings t a b (threadOf t a) ρ (conflicting-apart c) (s .candidate)
+witness-brings-both t a b ρ c s = candidate-brings t a b (threadOf t a) ρ (c .apart) (s .candidate)

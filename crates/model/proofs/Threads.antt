@@ -7,7 +7,7 @@ use mathlib.Core.List.{List, [], _∷_, List·Memᴰ·head, List·Memᴰ·tail, 
 use lib.ListN.{length, getD}
 use Rattle.model.specs.Trace.{Trace, Event, Valid, noEvent, threadOf}
 use Rattle.model.specs.Lists.{_∈_, Distinct, TwoThreads, listed, threads}
-use Rattle.model.specs.Race.{Conflicting, Apart, pair}
+use Rattle.model.specs.Race.{Apart, pair}
 use Rattle.model.proofs.Tests.{by-cases, in-cons, clash}
 use Rattle.model.proofs.Lists.{mem-listed, listed-mem}
 
@@ -66,9 +66,6 @@ in-pair-a a b = List·Memᴰ·head refl
 pub in-pair-b : (a b : ℕ) → b ∈ pair a b
 in-pair-b a b = List·Memᴰ·tail (List·Memᴰ·head refl)
 
-pub conflicting-apart : {t : Trace} {a b : ℕ} → Conflicting t a b → Apart t a b
-conflicting-apart c = record { first = c .first; second = c .second; apart = c .apart }
-
 pub pair-valid : (t : Trace) (a b : ℕ) → Apart t a b → (r : ℕ) → r ∈ pair a b → Valid t r
 pair-valid t a b c r m = mem-pair m (λ e. rw e (c .first)) (λ e. rw e (c .second))
 
@@ -85,4 +82,4 @@ no-third (u ∷ v ∷ w ∷ l) p a b c ne x y z = absurd (omega arith)
 -- in a trace by at most two threads every event is by the thread of one or the other
 pub two-threads : (t : Trace) (a b : ℕ) → TwoThreads t → Apart t a b → (k : ℕ) → Valid t k → (threadOf t k ≡ threadOf t a) ⊎ (threadOf t k ≡ threadOf t b)
 two-threads t a b two c k v =
-    no-third (threads t) two (threadOf t a) (threadOf t b) (threadOf t k) (c .apart) (thread-mem t a (c .first)) (thread-mem t b (c .second)) (thread-mem t k v)
+    no-third (threads t) two (threadOf t a) (threadOf t b) (threadOf t k) (c .threads) (thread-mem t a (c .first)) (thread-mem t b (c .second)) (thread-mem t k v)

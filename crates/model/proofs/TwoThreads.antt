@@ -114,8 +114,8 @@ module _ (t : Trace) (two : TwoThreads t) (a b : ℕ) (c : Apart t a b) (t′ : 
   root-not-near : (r : ℕ) → r ∈ pair a b → Near t a b r → ⊥
   root-not-near r m x =
       mem-pair m
-      (λ p. ⊎-elim (λ e. let y = e .less in omega arith) (λ e. c .apart (rw p at (e .thread))) x)
-      (λ p. ⊎-elim (λ e. c .apart (sym (rw p at (e .thread)))) (λ e. let y = e .less in omega arith) x)
+      (λ p. ⊎-elim (λ e. let y = e .less in omega arith) (λ e. c .threads (rw p at (e .thread))) x)
+      (λ p. ⊎-elim (λ e. c .threads (sym (rw p at (e .thread)))) (λ e. let y = e .less in omega arith) x)
 
   -- outside a's thread there is only b's
   kept-order : Increasing (only t (but (threadOf t a)) (reverse kept))
@@ -126,8 +126,8 @@ module _ (t : Trace) (two : TwoThreads t) (a b : ℕ) (c : Apart t a b) (t′ : 
       let q : only t (but A) kept ≡ own t B (upTo (g .0)) =
       keep-same (λ k. but A (threadOf t k)) (λ k. is B (threadOf t k)) kept (λ k m.
       ⊎-elim
-      (λ p. false-but A (threadOf t k) p ∙ sym (false-is B (threadOf t k) (λ z. c .apart (sym p ∙ z))))
-      (λ p. true-but A (threadOf t k) (λ z. c .apart (sym z ∙ p)) ∙ sym (true-is B (threadOf t k) p))
+      (λ p. false-but A (threadOf t k) p ∙ sym (false-is B (threadOf t k) (λ z. c .threads (sym p ∙ z))))
+      (λ p. true-but A (threadOf t k) (λ z. c .threads (sym z ∙ p)) ∙ sym (true-is B (threadOf t k) p))
       (two-threads t a b two c k (near-valid k (kept-near k m)))) ∙ g .2 in
       rw (keep-reverse (λ k. but A (threadOf t k)) kept, q) (increasing-reverse (λ k. is B (threadOf t k)) (g .0))
 

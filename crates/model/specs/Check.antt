@@ -66,8 +66,10 @@ unfoldable pub faultFrom : Trace → List ℕ → List ℕ → ℕ
 faultFrom t h [] = 0
 faultFrom t h (k ∷ ρ) = firstOf (placeFault t h k) (faultFrom t (k ∷ h) ρ)
 
+-- enabled after the whole list
 unfoldable pub isEnabled : Trace → List ℕ → ℕ → Bool
 isEnabled t ρ k = isValid t k && isNext t (reverse ρ) k
 
+-- the check's answer, 0 for yes
 unfoldable pub check : Trace → ℕ → ℕ → List ℕ → ℕ
 check t a b ρ = firstOf (faultFrom t [] ρ) (cond (not (isEnabled t ρ a)) 25 (cond (not (isEnabled t ρ b)) 26 0))

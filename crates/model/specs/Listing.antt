@@ -12,6 +12,7 @@ pub record Race : Type 0 where
   pub higher : ℕ
   pub witness : List ℕ
 
+-- it is a race of the trace
 pub record RaceOf (t : Trace) (x : Race) : Type 0 where
   pub conflicting : Conflicting t (x .lower) (x .higher)
   pub shown : Witness t (x .lower) (x .higher) (x .witness)

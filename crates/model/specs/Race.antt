@@ -12,21 +12,19 @@ use Rattle.model.specs.Cone.{InCone}
 abbrev pub Access : Trace → ℕ → Type 0
 Access t k = (kindOf t k ≡ read) ⊎ (kindOf t k ≡ write)
 
--- conflicting pair
-pub record Conflicting (t : Trace) (a b : ℕ) : Type 0 where
-  pub first : Valid t a
-  pub second : Valid t b
-  pub lower : a < b
-  pub apart : threadOf t a ≢ threadOf t b
-  pub accesses : Access t a × Access t b
-  pub cell : objectOf t a ≡ objectOf t b
-  pub a-write : (kindOf t a ≡ write) ⊎ (kindOf t b ≡ write)
-
 -- two events of different threads: all that the two-thread theorems ask of a pair
 pub record Apart (t : Trace) (a b : ℕ) : Type 0 where
   pub first : Valid t a
   pub second : Valid t b
-  pub apart : threadOf t a ≢ threadOf t b
+  pub threads : threadOf t a ≢ threadOf t b
+
+-- conflicting pair: a lower than b, different threads, same cell, at least one a write
+pub record Conflicting (t : Trace) (a b : ℕ) : Type 0 where
+  pub apart : Apart t a b
+  pub lower : a < b
+  pub accesses : Access t a × Access t b
+  pub cell : objectOf t a ≡ objectOf t b
+  pub a-write : (kindOf t a ≡ write) ⊎ (kindOf t b ≡ write)
 
 -- numbers that grow from left to right: the trace's order
 abbrev pub Increasing : List ℕ → Type 0

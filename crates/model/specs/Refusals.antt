@@ -27,6 +27,7 @@ pub data EventRefusal (t : Trace) (k n : ℕ) : Type 0 where
   lock-held : n ≡ 8 → InLimits t k → kindOf t k ≡ acquire → ¬ Free t (before k) k → EventRefusal t k n
   not-holder : n ≡ 9 → InLimits t k → kindOf t k ≡ release → ¬ Held t (before k) k → EventRefusal t k n
 
+-- a refusal with its event number
 pub record Refusal : Type 0 where
   pub code : ℕ
   pub event : ℕ
@@ -57,9 +58,11 @@ unfoldable pub refusalIn : Trace → List ℕ → Option Refusal
 refusalIn t [] = none
 refusalIn t (k ∷ l) = orNext (eventRefusal t k) k (refusalIn t l)
 
+-- the first refusal of a trace, if there is one
 unfoldable pub refusal : Trace → Option Refusal
 refusal t = refusalIn t (numbers t)
 
+-- the trace is good
 abbrev pub isNone : Option Refusal → Bool
 isNone none = true
 isNone (some x) = false
