@@ -20,10 +20,10 @@ use Rattle.model.proofs.Lists.{mem-numbers, numbers-mem, increasing-num
 use Rattle.model.proofs.CheckExact.{free-true, true-free}
 
 -- an event as it should be
-record GoodEvent (t : Trace) (k : ℕ) : Type 0 where
-  limits : InLimits t k
-  acquire-free : kindOf t k ≡ acquire → Free t (before k) k
-  release-held : kindOf t k ≡ release → Held t (before k) k
+pub record GoodEvent (t : Trace) (k : ℕ) : Type 0 where
+  pub limits : InLimits t k
+  pub acquire-free : kindOf t k ≡ acquire → Free t (before k) k
+  pub release-held : kindOf t k ≡ release → Held t (before k) k
 
 module _ (t : Trace) (k : ℕ) where
   known-true : leb read (kindOf t k) && leb (kindOf t k) release ≡ true → KnownKind (kindOf t k)
@@ -64,7 +64,7 @@ module _ (t : Trace) (k : ℕ) where
       (λ q. inr (thread-over (rw (p, q)) (known-true p) (test-false (le-leb (threadOf t k) maxThread) q))))
       (λ p. inr (unknown-kind (rw p) (test-false true-known p)))
 
-  good-clean : GoodEvent t k → eventRefusal t k ≡ 0
+  pub good-clean : GoodEvent t k → eventRefusal t k ≡ 0
   unfolding eventRefusal
   good-clean g =
       rw (
@@ -107,7 +107,7 @@ module _ (t : Trace) (k : ℕ) where
   refusal-nonzero n (lock-held e l a x) z = omega arith
   refusal-nonzero n (not-holder e l a x) z = omega arith
 
-  clean-good : eventRefusal t k ≡ 0 → GoodEvent t k
+  pub clean-good : eventRefusal t k ≡ 0 → GoodEvent t k
   clean-good e = ⊎-elim (λ g. g) (λ r. absurd (refusal-nonzero _ r e)) event-judged
 
   -- each refusal of an event exactly in its case
@@ -228,6 +228,21 @@ module _ (t : Trace) where
           release-held = g .well-formed .given-back k v;
         }))),
   )
+
+  -- what a walk over the events finds: the first that is refused, or none
+  pub refused-first : (k : ℕ) → Valid t k → eventRefusal t k ≢ 0 → ((j : ℕ) → 1 ≤ j → j < k → eventRefusal t j ≡ 0)
+      → refusal t ≡ some (record { code = eventRefusal t k; event = k })
+  refused-first k v ne clean =
+      refusal-exactly (record { code = eventRefusal t k; event = k }) .1
+      (record {
+        valid = v;
+        refused = event-refusal-exactly t k (eventRefusal t k) ne .0 refl;
+        first = λ j n p q y. refusal-nonzero t j n y (sym (refusal-found t j n y) ∙ clean j p q);
+      })
+
+  pub refused-none : ((k : ℕ) → Valid t k → eventRefusal t k ≡ 0) → refusal t ≡ none
+  unfolding refusal
+  refused-none clean = clean-none (numbers t) (λ k m. clean k (mem-numbers t k m))
 
   pub is-good-exactly : (isGood t ≡ true) ↔ Good t
   unfolding isGood

@@ -1,0 +1,2 @@
+-- Sets of small numbers in the bits of one.
+pub mod Mask

@@ -1,0 +1,7 @@
+-- Events out of bytes
+pub mod EventLaws
+-- Refusals 1 to 4, and the parts of a file
+pub mod LayoutExact
+pub mod PartLaws
+-- The ways through `read`
+pub mod ReadLaws

@@ -1,0 +1,118 @@
+-- A file: preamble, events of z bytes each, trailer. Refusals 1 to 4.
+use Prim.Native.Nat.{ℕ, _+_, _-_, _*_, _≤_}
+use mathlib.Core.Path.{_≡_}
+use mathlib.Core.Bool.{Bool, cond, _&&_, not}
+use mathlib.Core.Option.{Option, none, some}
+use mathlib.Core.List.{List, _++_}
+use lib.ListN.{length, take, drop}
+use lib.Dec.{eqb, leb}
+use Rattle.model.specs.Trace.{Trace, Valid, at}
+use Rattle.model.specs.Good.{maxEvents}
+use Rattle.format.specs.Limits.{eventBytes, trailerBytes, maxBytes, markFirst, markSecond}
+use Rattle.format.specs.Bytes.{byte, number16, number32, eventAt, traceOf}
+use Rattle.format.specs.declared.Refusal.{Refusal}
+use Rattle.format.specs.declared.Refusal.the-variants.{FileSize, Mark, EventCount, Distance}
+use Rattle.format.specs.declared.Trace.{Trace as Place}
+use Rattle.format.specs.declared.File.{File}
+use Rattle.format.specs.declared.File.the-variants.{Refused, Good}
+
+-- ---- the trailer: distance (4 bytes), number of events (2 bytes), mark (2 bytes)
+
+unfoldable pub distance : List ℕ → ℕ
+distance s = number32 s (length s - 8)
+
+unfoldable pub count : List ℕ → ℕ
+count s = number16 s (length s - 4)
+
+-- ---- the parts of a file
+
+-- where the first event begins: as far from the end as the events and the trailer are long
+unfoldable pub start : ℕ → List ℕ → ℕ
+start z s = length s - (trailerBytes + z * count s)
+
+unfoldable pub preamble : ℕ → List ℕ → List ℕ
+preamble z s = take (start z s) s
+
+unfoldable pub eventPart : ℕ → List ℕ → List ℕ
+eventPart z s = take (z * count s) (drop (start z s) s)
+
+-- the events of a file
+unfoldable pub events : ℕ → List ℕ → Trace
+events z s = traceOf z (eventPart z s)
+
+unfoldable pub trailer : List ℕ → List ℕ
+trailer s = drop (length s - trailerBytes) s
+
+-- ---- what refusals 1 to 4 ask
+
+pub record Sized (s : List ℕ) : Type 0 where
+  pub least : trailerBytes ≤ length s
+  pub most : length s ≤ maxBytes
+
+pub record Marked (s : List ℕ) : Type 0 where
+  pub first : byte s (length s - 2) ≡ markFirst
+  pub second : byte s (length s - 1) ≡ markSecond
+
+pub record Pointed (z : ℕ) (s : List ℕ) : Type 0 where
+  pub back : distance s ≡ trailerBytes + z * count s
+  pub within : distance s ≤ length s
+
+-- a file with the layout of the paper
+pub record Layout (z : ℕ) (s : List ℕ) : Type 0 where
+  pub sized : Sized s
+  pub marked : Marked s
+  pub few : count s ≤ maxEvents
+  pub pointed : Pointed z s
+
+-- a file that is refused for its layout: each refusal only where those before it have no case
+pub data LayoutRefusal (z : ℕ) (s : List ℕ) : Refusal → Type 0 where
+  bad-size : ¬ Sized s → LayoutRefusal z s FileSize
+  wrong-mark : Sized s → ¬ Marked s → LayoutRefusal z s Mark
+  too-many : Sized s → Marked s → ¬ (count s ≤ maxEvents) → LayoutRefusal z s EventCount
+  bad-distance : Sized s → Marked s → count s ≤ maxEvents → ¬ Pointed z s → LayoutRefusal z s Distance
+
+-- what a file with the layout is made of
+pub record Parts (z : ℕ) (s : List ℕ) : Type 0 where
+  pub whole : preamble z s ++ (eventPart z s ++ trailer s) ≡ s
+  pub before-events : length (preamble z s) ≡ start z s
+  pub of-events : length (eventPart z s) ≡ z * count s
+  pub of-trailer : length (trailer s) ≡ trailerBytes
+  pub number : length (events z s) ≡ count s
+  pub each : (k : ℕ) → Valid (events z s) k → at (events z s) k ≡ eventAt s (start z s + z * (k - 1))
+
+-- what the first refusal, or that there is none, means
+abbrev pub LayoutAnswer : ℕ → List ℕ → Option Refusal → Type 0
+LayoutAnswer z s none = Layout z s
+LayoutAnswer z s (some r) = LayoutRefusal z s r
+
+-- ---- computed
+
+unfoldable pub isSized : List ℕ → Bool
+isSized s = leb trailerBytes (length s) && leb (length s) maxBytes
+
+unfoldable pub isMarked : List ℕ → Bool
+isMarked s = eqb (byte s (length s - 2)) markFirst && eqb (byte s (length s - 1)) markSecond
+
+unfoldable pub isPointed : ℕ → List ℕ → Bool
+isPointed z s = eqb (distance s) (trailerBytes + z * count s) && leb (distance s) (length s)
+
+unfoldable pub layoutRefusal : ℕ → List ℕ → Option Refusal
+layoutRefusal z s =
+    cond (not (isSized s)) (some FileSize)
+    (cond (not (isMarked s)) (some Mark)
+    (cond (not (leb (count s) maxEvents)) (some EventCount)
+    (cond (not (isPointed z s)) (some Distance) none)))
+
+-- where a file's events stand, and how many they are
+abbrev pub placeOf : ℕ → List ℕ → Place
+placeOf z s = record { start = start z s; events = count s }
+
+-- what reading a file gives, by its refusal
+abbrev pub fileOf : ℕ → List ℕ → Option Refusal → File
+fileOf z s none = Good (placeOf z s)
+fileOf z s (some r) = Refused r
+
+-- t says where the events of a file with the layout stand
+pub record Placed (s : List ℕ) (t : Place) : Type 0 where
+  pub layout : Layout eventBytes s
+  pub place : t ≡ placeOf eventBytes s

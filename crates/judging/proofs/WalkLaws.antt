@@ -1,0 +1,178 @@
+-- What the walk over the events knows, and its ways.
+use Prim.Native.Nat.{ℕ, zero, suc, _+_, _≤_, _<_}
+use native.Mathlib.Omega.{arith}
+use native.Mathlib.Numerals.{add-one}
+use mathlib.Core.Path.{_≡_, refl, sym, _∙_, ap}
+use mathlib.Core.Logic.{_≢_}
+use mathlib.Core.Bool.{true, false, cond, Bool}
+use mathlib.Core.List.{List, _∷_}
+use lib.ListN.{length, set, length-set, getD-replicate, length-replicate}
+use lib.Seq.{getD-set-same, getD-set-other}
+use lib.Dec.{eqb}
+use borrow.Author.Tests.{eqb-true, eqb-false}
+use Rattle.model.specs.Trace.{Trace, Valid, acquire, release, threadOf, kindOf, objectOf, does}
+use Rattle.model.specs.Lists.{before}
+use Rattle.model.specs.Good.{maxEvents, maxObject, holder}
+use Rattle.model.specs.Refusals.{eventRefusal, refusal}
+use Rattle.model.proofs.Tests.{by-cases, true-does, false-does, does-true, false-test}
+use Rattle.model.proofs.RefusalsExact.{refused-first, refused-none, clean-good}
+use Rattle.format.specs.declared.Refusal.{Refusal}
+use Rattle.judging.specs.Judged.{atEvent, named}
+use Rattle.judging.specs.Walk.{noLocks, LockTable, Ready, locking, orTurn, turnOf, outcomeOf}
+use Rattle.judging.specs.declared.Locks.{Locks}
+use Rattle.judging.specs.declared.Turn.{Turn}
+use Rattle.judging.specs.declared.Turn.the-variants.{Pass, Hold, Stop}
+use Rattle.judging.specs.declared.Outcome.the-variants.{Good, Refused}
+
+-- the events before k are good, and the table is theirs
+pub record Judging (t : Trace) (n k : ℕ) (locks : Locks) : Type 0 where
+  pub size : n ≡ length t
+  pub few : n ≤ maxEvents
+  pub positive : 1 ≤ k
+  pub high : k ≤ n + 1
+  pub clean : (j : ℕ) → 1 ≤ j → j < k → eventRefusal t j ≡ 0
+  pub table : LockTable t (before k) (locks .holder)
+  pub wide : length (locks .holder) ≡ maxObject + 1
+
+-- ---- what an event does
+
+module _ (t : Trace) (k : ℕ) where
+  quiet : (c x : ℕ) → x ≢ objectOf t k → does t c x k ≡ false
+  quiet c x ne = false-test (does-true t c x k) (λ p. ne (sym (p .1)))
+
+  -- the turn, by the refusal of the event
+  stopped : (n : ℕ) (u : Turn) (r : Refusal) → orTurn n k (locking t k) ≡ u → u ≡ Stop r → (n ≢ 0) × (atEvent n k ≡ r)
+  stopped zero u r e f = absurd (never (eqb (kindOf t k) acquire) (eqb (kindOf t k) release) (e ∙ f))
+    where
+      never : (a b : Bool) → cond a (Hold (suc (threadOf t k))) (cond b (Hold 0) Pass) ≡ Stop r → ⊥
+      never true b e = let z : _≡_ {A = ℕ} 0 1 = cc in omega arith
+      never false true e = let z : _≡_ {A = ℕ} 0 1 = cc in omega arith
+      never false false e = let z : _≡_ {A = ℕ} 0 1 = cc in omega arith
+  stopped (suc n) u r e f = ((λ z. omega arith), cc)
+
+  passed : turnOf t k ≡ Pass → (eventRefusal t k ≡ 0) × (locking t k ≡ Pass)
+  unfolding turnOf
+  passed e = go (eventRefusal t k) refl e
+    where
+      go : (n : ℕ) → eventRefusal t k ≡ n → orTurn n k (locking t k) ≡ Pass → (eventRefusal t k ≡ 0) × (locking t k ≡ Pass)
+      go zero q f = (q, f)
+      go (suc n) q f = let z : _≡_ {A = ℕ} 0 1 = cc in absurd (omega arith)
+
+  held : (v : ℕ) → turnOf t k ≡ Hold v → (eventRefusal t k ≡ 0) × (locking t k ≡ Hold v)
+  unfolding turnOf
+  held v e = go (eventRefusal t k) refl e
+    where
+      go : (n : ℕ) → eventRefusal t k ≡ n → orTurn n k (locking t k) ≡ Hold v → (eventRefusal t k ≡ 0) × (locking t k ≡ Hold v)
+      go zero q f = (q, f)
+      go (suc n) q f = let z : _≡_ {A = ℕ} 0 1 = cc in absurd (omega arith)
+
+  -- no lock changes
+  after-pass : locking t k ≡ Pass → (h : List ℕ) (x : ℕ) → holder t x (k ∷ h) ≡ holder t x h
+  after-pass e h x =
+      by-cases (eqb (kindOf t k) acquire)
+      (λ a. let f = rw a at e in let z : _≡_ {A = ℕ} 0 1 = cc in absurd (omega arith))
+      (λ a.
+      by-cases (eqb (kindOf t k) release)
+      (λ b. let f = rw (a, b) at e in let z : _≡_ {A = ℕ} 0 1 = cc in absurd (omega arith))
+      (λ b. rw (false-does t acquire x k (eqb-false _ _ a), false-does t release x k (eqb-false _ _ b))))
+
+  -- the event's lock has the new holder
+  after-hold : (v : ℕ) → locking t k ≡ Hold v → (h : List ℕ) → holder t (objectOf t k) (k ∷ h) ≡ v
+  after-hold v e h =
+      by-cases (eqb (kindOf t k) acquire)
+      (λ a. let f = rw a at e in rw (true-does t acquire (objectOf t k) k (eqb-true _ _ a) refl) cc)
+      (λ a.
+      by-cases (eqb (kindOf t k) release)
+      (λ b.
+      let f = rw (a, b) at e in
+      rw (false-does t acquire (objectOf t k) k (eqb-false _ _ a), true-does t release (objectOf t k) k (eqb-true _ _ b) refl) cc)
+      (λ b. let f = rw (a, b) at e in let z : _≡_ {A = ℕ} 0 1 = cc in absurd (omega arith)))
+
+  -- and no other lock changes
+  after-other : (h : List ℕ) (x : ℕ) → x ≢ objectOf t k → holder t x (k ∷ h) ≡ holder t x h
+  after-other h x ne = rw (quiet acquire x ne, quiet release x ne)
+
+next-before : (k : ℕ) → 1 ≤ k → before (k + 1) ≡ k ∷ before k
+next-before zero p = absurd (omega arith)
+next-before (suc k) p = rw (add-one (suc k))
+
+-- ---- the ways
+
+pub judging-start : (t : Trace) (n : ℕ) (locks : Locks) → n ≡ length t → length t ≤ maxEvents → locks .holder ≡ noLocks → Judging t n 1 locks
+unfolding noLocks
+judging-start t n locks size few e =
+    record {
+      size = size;
+      few = omega arith;
+      positive = omega arith;
+      high = omega arith;
+      clean = λ j p q. absurd (omega arith);
+      table = record { is = λ x h. rw e (getD-replicate (maxObject + 1) x 0 0 (omega arith)) };
+      wide = rw e (length-replicate {A = ℕ} (maxObject + 1) 0);
+    }
+
+module _ {t : Trace} {n k : ℕ} {locks : Locks} (p : Judging t n k locks) (h : k ≤ n) where
+  pub judging-valid : Valid t k
+  judging-valid = record { positive = p .positive; bounded = let s = p .size in omega arith }
+
+  pub judging-ready : Ready t k (locks .holder)
+  judging-ready = record { valid = judging-valid; few = let s = p .size in let f = p .few in omega arith; locks = p .table }
+
+  more-clean : eventRefusal t k ≡ 0 → (j : ℕ) → 1 ≤ j → j < k + 1 → eventRefusal t j ≡ 0
+  more-clean e j a b = by-cases (eqb j k) (λ q. rw (eqb-true j k q) e) (λ q. let ne = eqb-false j k q in p .clean j a (omega arith))
+
+  module _ (u : Turn) (eu : u ≡ turnOf t k) where
+    pub judging-pass : u ≡ Pass → (l : Locks) → l ≡ locks → Judging t n (k + 1) l
+    judging-pass f l el =
+        let w = passed t k (sym eu ∙ f) in
+        rw el
+        (record {
+          size = p .size;
+          few = p .few;
+          positive = omega arith;
+          high = omega arith;
+          clean = more-clean (w .0);
+          table = record { is = λ x b. p .table .is x b ∙ sym (ap (holder t x) (next-before k (p .positive)) ∙ after-pass t k (w .1) (before k) x) };
+          wide = p .wide;
+        })
+
+    pub judging-object : (v : ℕ) → u ≡ Hold v → (o : ℕ) → o ≡ objectOf t k → o < maxObject + 1
+    judging-object v f o eo =
+        let w = held t k v (sym eu ∙ f) in let b = clean-good t k (w .0) .limits .object in omega arith
+
+    pub judging-hold : (v : ℕ) → u ≡ Hold v → (o : ℕ) → o ≡ objectOf t k → (l : Locks) → l ≡ record { holder = set (locks .holder) o v } → Judging t n (k + 1) l
+    judging-hold v f o eo l el =
+        let w = held t k v (sym eu ∙ f) in
+        let b = judging-object v f o eo in
+        let y = p .wide in
+        rw el
+        (record {
+          size = p .size;
+          few = p .few;
+          positive = omega arith;
+          high = omega arith;
+          clean = more-clean (w .0);
+          table =
+              record {
+                is = λ x c.
+                    by-cases (eqb x o)
+                    (λ q.
+                    let e : x ≡ o = eqb-true x o q in
+                    rw (e, getD-set-same (locks .holder) o v 0 (omega arith), eo, next-before k (p .positive))
+                    (sym (after-hold t k v (w .1) (before k))))
+                    (λ q.
+                    let ne = eqb-false x o q in
+                    rw (getD-set-other (locks .holder) o x v 0 ne, next-before k (p .positive))
+                    (p .table .is x c ∙ sym (after-other t k (before k) x (λ e. ne (e ∙ sym eo)))));
+              };
+          wide = length-set (locks .holder) o v ∙ y;
+        })
+
+    pub judging-stop : (r : Refusal) → u ≡ Stop r → Refused r ≡ outcomeOf (named (refusal t))
+    unfolding turnOf
+    judging-stop r f =
+        let w = stopped t k (eventRefusal t k) u r (sym eu) f in
+        rw (refused-first t k judging-valid (w .0) (p .clean)) (ap Refused (sym (w .1)))
+
+pub judging-end : {t : Trace} {n k : ℕ} {locks : Locks} → Judging t n k locks → n < k → Good ≡ outcomeOf (named (refusal t))
+judging-end {t} p h = rw (refused-none t (λ j v. let a = v .positive in let b = v .bounded in let s = p .size in p .clean j a (omega arith)))

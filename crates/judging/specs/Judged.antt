@@ -1,0 +1,48 @@
+-- The first refusal of a file: 1 to 4 by its layout, 5 to 9 by its events.
+use Prim.Native.Nat.{ℕ}
+use mathlib.Core.Path.{_≡_}
+use mathlib.Core.Bool.{cond}
+use mathlib.Core.Option.{Option, none, some}
+use mathlib.Core.List.{List}
+use lib.Dec.{eqb}
+use Rattle.model.specs.Good.{Good}
+use Rattle.model.specs.Refusals.{Refusal as EventRefused, FirstRefusal, refusal}
+use Rattle.format.specs.Refusals.{numberOf, eventOf}
+use Rattle.format.specs.Layout.{Layout, LayoutRefusal, layoutRefusal, events}
+use Rattle.format.specs.declared.Refusal.{Refusal}
+use Rattle.format.specs.declared.Refusal.the-variants.{Kind, Thread, Object, LockHeld, NotHolder}
+use Rattle.format.specs.declared.EventNumber.the-variants.{At}
+
+-- ---- what the answer means
+
+-- a good file: the layout, and good events
+pub record GoodFile (z : ℕ) (s : List ℕ) : Type 0 where
+  pub layout : Layout z s
+  pub good : Good (events z s)
+
+-- a refused file: by its layout, or else by the first of its events that is refused, with that event's number
+pub data FileRefusal (z : ℕ) (s : List ℕ) (r : Refusal) : Type 0 where
+  by-layout : LayoutRefusal z s r → FileRefusal z s r
+  by-event : Layout z s → (x : EventRefused) → FirstRefusal (events z s) x → numberOf r ≡ x .code → eventOf r ≡ At (x .event) → FileRefusal z s r
+
+abbrev pub FileAnswer : ℕ → List ℕ → Option Refusal → Type 0
+FileAnswer z s none = GoodFile z s
+FileAnswer z s (some r) = FileRefusal z s r
+
+-- ---- computed
+
+-- the refusal of event k with the paper's number n, from 5 to 9
+unfoldable pub atEvent : ℕ → ℕ → Refusal
+atEvent n k = cond (eqb n 5) (Kind k) (cond (eqb n 6) (Thread k) (cond (eqb n 7) (Object k) (cond (eqb n 8) (LockHeld k) (NotHolder k))))
+
+abbrev pub named : Option EventRefused → Option Refusal
+named none = none
+named (some x) = some (atEvent (x .code) (x .event))
+
+abbrev pub orElse : Option Refusal → Option Refusal → Option Refusal
+orElse none o = o
+orElse (some r) o = some r
+
+-- the first refusal of a file, if there is one
+unfoldable pub fileRefusal : ℕ → List ℕ → Option Refusal
+fileRefusal z s = orElse (layoutRefusal z s) (named (refusal (events z s)))

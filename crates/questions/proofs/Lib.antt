@@ -1,0 +1,2 @@
+-- The ways through the questions
+pub mod AnswerLaws

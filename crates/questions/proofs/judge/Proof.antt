@@ -1,0 +1,18 @@
+use Rattle.questions.proofs.AnswerLaws.{number-fits, trace-good, judge-refused, judge-good}
+use Rattle.judging.proofs.FileLaws.{judged-placed}
+use borrow.Author.Needs.{needs}
+use Rattle.questions.proofs.judge.Statement.{statement}
+use Rattle.questions.proofs.judge.Tie as tie
+
+pub judge-spec : {M : Type 1} → statement M
+judge-spec =
+    tie.close
+    (tie.spec
+    (λ c κs. search needs)
+    (λ c. search needs)
+    (λ c. search needs)
+    (λ c. search (number-fits, needs))
+    (λ c κs. search (judged-placed, needs))
+    (λ c κs. search (trace-good, needs))
+    (λ c. search (judge-refused, needs))
+    (λ c. search (judge-good, needs)))

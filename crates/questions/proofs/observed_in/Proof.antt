@@ -1,0 +1,18 @@
+use Rattle.questions.proofs.AnswerLaws.{below, above, no-read, sees-start, sees-write, seen-fits}
+use borrow.Author.Needs.{needs}
+use Rattle.questions.proofs.observed_in.Statement.{statement}
+use Rattle.questions.proofs.observed_in.Tie as tie
+
+pub observed-in-spec : {M : Type 1} → statement M
+observed-in-spec =
+    tie.close
+    (tie.spec
+    (λ c. search (below, needs))
+    (λ c κs. search needs)
+    (λ c. search (above, needs))
+    (λ c κs. search needs)
+    (λ c. search (no-read, needs))
+    (λ c κs. search needs)
+    (λ c. search (sees-start, needs))
+    (λ c. search (seen-fits, needs))
+    (λ c. search (sees-write, needs)))

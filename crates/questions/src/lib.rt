@@ -1,0 +1,80 @@
+// The public questions. Each takes a file's bytes, judges them first, and asks nothing of its caller.
+use format::Event;
+use format::File;
+use format::Refusal;
+ghost use mathlib.Core.Path.{_≡_};
+ghost use Rattle.format.specs.Bytes.{trace};
+ghost use Rattle.questions.specs.Answers.{answerJudge, observedIn, answerObserved};
+ghost use Rattle.questions.specs.Note.{whole, answerNote};
+
+pub enum Judgement {
+    Refused(Refusal),
+    Good { events: u16, threads: u32 },
+}
+
+pub enum Observed {
+    Refused(Refusal),
+    Write(u16),
+    Start,
+    NotARead,
+}
+
+// Question 1: is the file good, with how many events and threads?
+pub fn judge(file: &[u8]) -> Judgement
+    ensures { λ r. ⌜ r ≡ answerJudge (now (file .entry)) ⌝ }
+{
+    match judging::judge(file) {
+        File::Refused(r) => Judgement::Refused(r),
+        File::Good(t) => {
+            let n = t.events;
+            Judgement::Good {
+                events: n as u16,
+                threads: judging::thread_count(format::events(file, t)),
+            }
+        }
+    }
+}
+
+// The observed write of event k of a good file's events, whatever k is.
+fn observed_in(ev: &[u8], k: u16) -> Observed
+    ensures { λ r. ⌜ r ≡ observedIn (trace (now (ev .entry))) k ⌝ }
+{
+    let at = k as usize;
+    if at < 1 {
+        return Observed::NotARead;
+    }
+    if format::count(ev) < at {
+        return Observed::NotARead;
+    }
+    if format::kind_at(ev, at) != Event::READ {
+        return Observed::NotARead;
+    }
+    let w = links::observed_write(ev, at);
+    if w == 0 {
+        return Observed::Start;
+    }
+    Observed::Write(w as u16)
+}
+
+// Question 2: which write does event k see?
+pub fn observed_write(file: &[u8], k: u16) -> Observed
+    ensures { λ r. ⌜ r ≡ answerObserved (now (file .entry)) k ⌝ }
+{
+    match judging::judge(file) {
+        File::Refused(r) => Observed::Refused(r),
+        File::Good(t) => observed_in(format::events(file, t), k),
+    }
+}
+
+// Question 6: the preamble, or the operator's own note where that is empty.
+pub fn note<'a>(file: &'a [u8], operator: &'a [u8]) -> &'a [u8]
+    ensures { λ r. ⌜ whole r ≡ answerNote (file .entry) (operator .entry) ⌝ }
+{
+    match judging::judge(file) {
+        File::Refused(_) => &file[..0],
+        File::Good(t) => {
+            let start = t.start;
+            if start == 0 { operator } else { &file[..start] }
+        }
+    }
+}
