@@ -19,7 +19,7 @@ use Rattle.format.specs.declared.File.the-variants.{Refused, Good}
 -- ---- the trailer: distance (4 bytes), number of events (2 bytes), mark (2 bytes)
 
 unfoldable pub distance : List ℕ → ℕ
-distance s = number32 s (length s - 8)
+distance s = number32 s (length s - trailerBytes)
 
 unfoldable pub count : List ℕ → ℕ
 count s = number16 s (length s - 4)

@@ -2,7 +2,10 @@
 ghost use mathlib.Core.Path.{_≡_};
 ghost use Prim.Native.Nat.{_+_, _*_, _≤_, _<_};
 ghost use lib.ListN.{length};
+ghost use lib.Dec.{leb};
 ghost use Rattle.model.specs.Trace.{Valid, at, threadOf, kindOf, objectOf};
+ghost use Rattle.model.specs.Good.{maxThread, maxObject};
+ghost use Rattle.model.specs.Refusals.{isKnownKind};
 ghost use Rattle.format.specs.Limits.{eventBytes};
 ghost use Rattle.format.specs.Bytes.{number16, number32, trace, plain};
 ghost use Rattle.format.specs.Refusals.{numberOf, eventOf};
@@ -15,6 +18,12 @@ pub struct Thread {
 
 impl Thread {
     pub const MAX: u8 = 15;
+
+    pub fn in_limit(self) -> bool
+        ensures { λ r. ⌜ r ≡ leb (self .number) maxThread ⌝ }
+    {
+        self.number <= Thread::MAX
+    }
 }
 
 // An event: its thread, its kind, and its object: the cell of a read or write, or the lock of an acquire or release.
@@ -36,6 +45,21 @@ impl Event {
     pub const RELEASE: u8 = 4;
 
     pub const MAX_OBJECT: usize = 255;
+
+    pub fn kind_known(self) -> bool
+        ensures { λ r. ⌜ r ≡ isKnownKind (self .kind) ⌝ }
+    {
+        if self.kind < Event::READ {
+            return false;
+        }
+        self.kind <= Event::RELEASE
+    }
+
+    pub fn object_in_limit(self) -> bool
+        ensures { λ r. ⌜ r ≡ leb (self .object) maxObject ⌝ }
+    {
+        self.object <= Event::MAX_OBJECT
+    }
 }
 
 // Where the events of a recording stand in its file, and how many they are.
@@ -169,7 +193,7 @@ pub fn read(file: &[u8]) -> File
     if Trace::MAX_EVENTS < events {
         return File::Refused(Refusal::EventCount);
     }
-    let distance = read32(file, len - 8);
+    let distance = read32(file, len - Trace::TRAILER_BYTES);
     if distance != Trace::TRAILER_BYTES + Event::BYTES * events {
         return File::Refused(Refusal::Distance);
     }

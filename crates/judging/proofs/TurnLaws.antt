@@ -4,12 +4,17 @@ use native.Mathlib.Omega.{arith}
 use mathlib.Core.Path.{_≡_, refl, sym, _∙_, ap}
 use mathlib.Core.List.{List}
 use lib.ListN.{getD}
-use borrow.Author.Tests.{eq-eqb, ne-eqb}
+use lib.Dec.{leb}
+use mathlib.Core.Bool.{Bool, true, false, not}
+use mir.Val.{Fits}
+use mir.Syntax.{w8}
+use borrow.Author.Tests.{eq-eqb, ne-eqb, leb-true, leb-false, not-true, not-false}
 use Rattle.model.specs.Trace.{Trace, Event, at, read, acquire, release, threadOf, kindOf, objectOf}
 use Rattle.model.specs.Lists.{before}
-use Rattle.model.specs.Good.{maxThread, maxObject, holder}
-use Rattle.model.specs.Refusals.{InLimits, EventRefusal, unknown-kind, thread-over, object-over, lock-held, not-holder}
-use Rattle.model.proofs.RefusalsExact.{GoodEvent, good-clean, event-refusal-exactly}
+use Rattle.model.specs.Good.{KnownKind, maxThread, maxObject, holder}
+use Rattle.model.specs.Refusals.{InLimits, EventRefusal, unknown-kind, thread-over, object-over, lock-held, not-holder, isKnownKind}
+use Rattle.model.proofs.RefusalsExact.{GoodEvent, known-true, true-known, good-clean, event-refusal-exactly}
+use Rattle.model.proofs.Tests.{test-false}
 use Rattle.format.specs.Bytes.{plain}
 use Rattle.format.specs.declared.Event.{Event as Decoded}
 use Rattle.format.specs.declared.Refusal.the-variants.{Kind, Thread, Object, LockHeld, NotHolder}
@@ -31,66 +36,85 @@ module _ {t : Trace} {k : ℕ} {table : List ℕ} (p : Ready t k table) {e : Dec
   unfolding turnOf
   stops n r = rw (event-refusal-exactly t k (suc n) (λ z. omega arith) .1 r)
 
-  pub kind-low : e .kind < read → Stop (Kind k) ≡ turnOf t k
-  unfolding atEvent
-  kind-low h = let a = kind-is in stops 4 (unknown-kind refl (λ q. let l = q .0 in omega arith))
+  module _ (a : Bool) (ea : a ≡ isKnownKind (e .kind)) where
+    known-is : a ≡ isKnownKind (kindOf t k)
+    known-is = ea ∙ ap isKnownKind kind-is
 
-  module _ (low : read ≤ e .kind) where
-    pub kind-high : release < e .kind → Stop (Kind k) ≡ turnOf t k
+    pub kind-unknown : not a ≡ true → Stop (Kind k) ≡ turnOf t k
     unfolding atEvent
-    kind-high h = let a = kind-is in stops 4 (unknown-kind refl (λ q. let l = q .1 in omega arith))
+    kind-unknown h = stops 4 (unknown-kind refl (test-false (true-known t k) (sym known-is ∙ not-true a h)))
 
-    module _ (high : e .kind ≤ release) where
-      known : (read ≤ kindOf t k) × (kindOf t k ≤ release)
-      known = let a = kind-is in (omega arith, omega arith)
+    module _ (ok : not a ≡ false) (b : Bool) (eb : b ≡ leb (e .thread .number) maxThread) where
+      known : KnownKind (kindOf t k)
+      known = known-true t k (sym known-is ∙ not-false a ok)
 
-      pub thread-high : maxThread < e .thread .number → Stop (Thread k) ≡ turnOf t k
+      pub thread-over-limit : not b ≡ true → Stop (Thread k) ≡ turnOf t k
       unfolding atEvent
-      thread-high h = let a = thread-is in stops 5 (thread-over refl known (λ q. omega arith))
+      thread-over-limit h =
+          let n = leb-false (e .thread .number) maxThread (sym eb ∙ not-true b h) in
+          let d = thread-is in
+          stops 5 (thread-over refl known (λ q. omega arith))
 
-      module _ (th : e .thread .number ≤ maxThread) where
-        thread-low : threadOf t k ≤ maxThread
-        thread-low = let a = thread-is in omega arith
+      module _ (low : not b ≡ false) where
+        thread-low : e .thread .number ≤ maxThread
+        thread-low = leb-true _ _ (sym eb ∙ not-false b low)
 
-        pub object-high : maxObject < e .object → Stop (Object k) ≡ turnOf t k
-        unfolding atEvent
-        object-high h = let a = object-is in stops 6 (object-over refl known thread-low (λ q. omega arith))
+        within : threadOf t k ≤ maxThread
+        within = let l = thread-low in let d = thread-is in omega arith
 
-        module _ (ob : e .object ≤ maxObject) where
-          limits : InLimits t k
-          limits = record { kind = known; thread = thread-low; object = let a = object-is in omega arith }
+        pub taker-fits : Fits w8 (e .thread .number + 1)
+        taker-fits = let l = thread-low in record { fits = omega arith }
 
-          held : getD table (e .object) 0 ≡ holder t (objectOf t k) (before k)
-          held = p .locks .is (e .object) ob ∙ ap (λ (x : ℕ). holder t x (before k)) object-is
-
-          pub acquires : e .kind ≡ acquire → getD table (e .object) 0 ≡ 0 → Hold (e .thread .number + 1) ≡ turnOf t k
-          unfolding turnOf
-          acquires a f =
-              let q : kindOf t k ≡ acquire = sym kind-is ∙ a in
-              let g : GoodEvent t k = record { limits = limits; acquire-free = λ x. sym held ∙ f; release-held = λ x. absurd (omega arith) } in
-              rw (good-clean t k g, eq-eqb (kindOf t k) acquire q) (ap Hold (let b = thread-is in omega arith))
-
-          pub was-held : e .kind ≡ acquire → (getD table (e .object) 0 ≡ 0 → ⊥) → Stop (LockHeld k) ≡ turnOf t k
+        module _ (d : Bool) (ed : d ≡ leb (e .object) maxObject) where
+          pub object-over-limit : not d ≡ true → Stop (Object k) ≡ turnOf t k
           unfolding atEvent
-          was-held a f = stops 7 (lock-held refl limits (sym kind-is ∙ a) (λ x. f (held ∙ x)))
+          object-over-limit h =
+              let n = leb-false (e .object) maxObject (sym ed ∙ not-true d h) in
+              let x = object-is in
+              stops 6 (object-over refl known within (λ q. omega arith))
 
-          module _ (other : e .kind ≡ acquire → ⊥) where
-            pub releases : e .kind ≡ release → getD table (e .object) 0 ≡ e .thread .number + 1 → Hold 0 ≡ turnOf t k
+          module _ (ob : not d ≡ false) where
+            object-low : e .object ≤ maxObject
+            object-low = leb-true _ _ (sym ed ∙ not-false d ob)
+
+            limits : InLimits t k
+            limits = record { kind = known; thread = within; object = let l = object-low in let x = object-is in omega arith }
+
+            held : getD table (e .object) 0 ≡ holder t (objectOf t k) (before k)
+            held = p .locks .is (e .object) object-low ∙ ap (λ (x : ℕ). holder t x (before k)) object-is
+
+            pub acquires : e .kind ≡ acquire → getD table (e .object) 0 ≡ 0 → Hold (e .thread .number + 1) ≡ turnOf t k
             unfolding turnOf
-            releases a f =
-                let q : kindOf t k ≡ release = sym kind-is ∙ a in
-                let b = thread-is in
-                let c = held in
-                let g : GoodEvent t k = record { limits = limits; acquire-free = λ x. absurd (omega arith); release-held = λ x. omega arith } in
-                rw (good-clean t k g, ne-eqb (kindOf t k) acquire (omega arith), eq-eqb (kindOf t k) release q)
+            acquires y f =
+                let q : kindOf t k ≡ acquire = sym kind-is ∙ y in
+                let g : GoodEvent t k = record { limits = limits; acquire-free = λ x. sym held ∙ f; release-held = λ x. absurd (omega arith) } in
+                rw (good-clean t k g, eq-eqb (kindOf t k) acquire q) (ap Hold (let x = thread-is in omega arith))
 
-            pub not-by-holder : e .kind ≡ release → (getD table (e .object) 0 ≡ e .thread .number + 1 → ⊥) → Stop (NotHolder k) ≡ turnOf t k
+            pub was-held : e .kind ≡ acquire → (getD table (e .object) 0 ≡ 0 → ⊥) → Stop (LockHeld k) ≡ turnOf t k
             unfolding atEvent
-            not-by-holder a f = let b = thread-is in let c = held in stops 8 (not-holder refl limits (sym kind-is ∙ a) (λ x. f (omega arith)))
+            was-held y f = stops 7 (lock-held refl limits (sym kind-is ∙ y) (λ x. f (held ∙ x)))
 
-            pub passes : (e .kind ≡ release → ⊥) → Pass ≡ turnOf t k
-            unfolding turnOf
-            passes f =
-                let a = kind-is in
-                let g : GoodEvent t k = record { limits = limits; acquire-free = λ x. absurd (other (a ∙ x)); release-held = λ x. absurd (f (a ∙ x)) } in
-                rw (good-clean t k g, ne-eqb (kindOf t k) acquire (λ x. other (a ∙ x)), ne-eqb (kindOf t k) release (λ x. f (a ∙ x)))
+            module _ (other : e .kind ≡ acquire → ⊥) where
+              pub releases : e .kind ≡ release → getD table (e .object) 0 ≡ e .thread .number + 1 → Hold 0 ≡ turnOf t k
+              unfolding turnOf
+              releases y f =
+                  let q : kindOf t k ≡ release = sym kind-is ∙ y in
+                  let x = thread-is in
+                  let h = held in
+                  let g : GoodEvent t k = record { limits = limits; acquire-free = λ z. absurd (omega arith); release-held = λ z. omega arith } in
+                  rw (good-clean t k g, ne-eqb (kindOf t k) acquire (omega arith), eq-eqb (kindOf t k) release q)
+
+              pub not-by-holder : e .kind ≡ release → (getD table (e .object) 0 ≡ e .thread .number + 1 → ⊥) → Stop (NotHolder k) ≡ turnOf t k
+              unfolding atEvent
+              not-by-holder y f = let x = thread-is in let h = held in stops 8 (not-holder refl limits (sym kind-is ∙ y) (λ z. f (omega arith)))
+
+              pub passes : (e .kind ≡ release → ⊥) → Pass ≡ turnOf t k
+              unfolding turnOf
+              passes f =
+                  let x = kind-is in
+                  let g : GoodEvent t k = record { limits = limits; acquire-free = λ z. absurd (other (x ∙ z)); release-held = λ z. absurd (f (x ∙ z)) } in
+                  rw (good-clean t k g, ne-eqb (kindOf t k) acquire (λ z. other (x ∙ z)), ne-eqb (kindOf t k) release (λ z. f (x ∙ z)))
+
+-- a lock's number is an index of the table
+pub object-below : (e : Decoded) (d : Bool) → d ≡ leb (e .object) maxObject → not d ≡ false → e .object < maxObject + 1
+object-below e d ed ob = let l = leb-true (e .object) maxObject (sym ed ∙ not-false d ob) in omega arith

@@ -2,8 +2,6 @@
 use format::Event;
 use format::File;
 use format::Refusal;
-use format::Thread;
-use format::Trace;
 ghost use mathlib.Core.Path.{_≡_};
 ghost use Prim.Native.Nat.{_≤_};
 ghost use lib.ListN.{length};
@@ -54,28 +52,26 @@ fn turn_at(ev: &[u8], k: usize, holder: &[u8; LOCKS]) -> Turn
 {
     let e = format::event_at(ev, k);
     let number = k as u16;
-    let thread = e.thread.number;
-    let object = e.object;
-    if e.kind < Event::READ {
+    if !e.kind_known() {
         return Turn::Stop(Refusal::Kind(number));
     }
-    if Event::RELEASE < e.kind {
-        return Turn::Stop(Refusal::Kind(number));
-    }
-    if Thread::MAX < thread {
+    let thread = e.thread;
+    if !thread.in_limit() {
         return Turn::Stop(Refusal::Thread(number));
     }
-    if Event::MAX_OBJECT < object {
+    if !e.object_in_limit() {
         return Turn::Stop(Refusal::Object(number));
     }
+    let object = e.object;
+    let taker = thread.number + 1;
     if e.kind == Event::ACQUIRE {
         if holder[object] == 0 {
-            return Turn::Hold(thread + 1);
+            return Turn::Hold(taker);
         }
         return Turn::Stop(Refusal::LockHeld(number));
     }
     if e.kind == Event::RELEASE {
-        if holder[object] == thread + 1 {
+        if holder[object] == taker {
             return Turn::Hold(0);
         }
         return Turn::Stop(Refusal::NotHolder(number));

@@ -4,6 +4,8 @@ pub mod Lists
 pub mod Histories
 pub mod Locks
 pub mod Agree
+-- the observed write, in words
+pub mod ObservedExact
 -- The theorems, by their numbers in docs/CLAIMS.md: 1
 pub mod RuleByRule
 -- 8, the number of threads

@@ -14,7 +14,7 @@ use Rattle.model.specs.Lists.{_∈_, before, numbers}
 use Rattle.model.specs.Good.{KnownKind, maxEvents, maxThread, maxObject, holder, Free, Held, Good}
 use Rattle.model.specs.Race.{Increasing}
 use Rattle.model.specs.Check.{isFree}
-use Rattle.model.specs.Refusals.{InLimits, EventRefusal, unknown-kind, thread-over, object-over, lock-held, not-holder, Refusal, FirstRefusal, eventRefusal, orNext, refusalIn, refusal, isNone, isGood}
+use Rattle.model.specs.Refusals.{InLimits, EventRefusal, unknown-kind, thread-over, object-over, lock-held, not-holder, Refusal, FirstRefusal, isKnownKind, eventRefusal, orNext, refusalIn, refusal, isNone, isGood}
 use Rattle.model.proofs.Tests.{by-cases, in-cons, both, true-both, not-both, both-not, false-test, test-false}
 use Rattle.model.proofs.Lists.{mem-numbers, numbers-mem, increasing-numbers}
 use Rattle.model.proofs.CheckExact.{free-true, true-free}
@@ -26,10 +26,10 @@ pub record GoodEvent (t : Trace) (k : ℕ) : Type 0 where
   pub release-held : kindOf t k ≡ release → Held t (before k) k
 
 module _ (t : Trace) (k : ℕ) where
-  known-true : leb read (kindOf t k) && leb (kindOf t k) release ≡ true → KnownKind (kindOf t k)
+  pub known-true : isKnownKind (kindOf t k) ≡ true → KnownKind (kindOf t k)
   known-true e = let a = both (leb read (kindOf t k)) (leb (kindOf t k) release) e in (leb-true read (kindOf t k) (a .0), leb-true (kindOf t k) release (a .1))
 
-  true-known : KnownKind (kindOf t k) → leb read (kindOf t k) && leb (kindOf t k) release ≡ true
+  pub true-known : KnownKind (kindOf t k) → isKnownKind (kindOf t k) ≡ true
   true-known p = true-both (le-leb read (kindOf t k) (p .0)) (le-leb (kindOf t k) release (p .1))
 
   held : Bool
@@ -39,7 +39,7 @@ module _ (t : Trace) (k : ℕ) where
   event-judged : GoodEvent t k ⊎ EventRefusal t k (eventRefusal t k)
   unfolding eventRefusal held
   event-judged =
-      by-cases (leb read (kindOf t k) && leb (kindOf t k) release)
+      by-cases (isKnownKind (kindOf t k))
       (λ p.
       by-cases (leb (threadOf t k) maxThread)
       (λ q.

@@ -1,7 +1,9 @@
 -- Observed write.
-use Prim.Native.Nat.{ℕ}
+use Prim.Native.Nat.{ℕ, _≤_, _<_}
+use mathlib.Core.Path.{_≡_}
+use mathlib.Core.Logic.{_≢_}
 use mathlib.Core.List.{List}
-use Rattle.model.specs.Trace.{Trace, write, objectOf, does}
+use Rattle.model.specs.Trace.{Trace, write, kindOf, objectOf, does}
 use Rattle.model.specs.Lists.{before, nearest}
 
 -- the last write of cell x in a history; 0 where there is none
@@ -11,3 +13,17 @@ lastWrite t x h = nearest (λ k. does t write x k) h
 -- observed write of the read k: the last write of its cell before it in the trace, by any thread; 0 where it sees the start
 unfoldable pub observed : Trace → ℕ → ℕ
 observed t k = lastWrite t (objectOf t k) (before k)
+
+-- ---- the same in words
+
+-- w is a write of event k's cell before it, and no later one is
+pub record LastBefore (t : Trace) (k w : ℕ) : Type 0 where
+  pub positive : 1 ≤ w
+  pub earlier : w < k
+  pub writes : kindOf t w ≡ write
+  pub cell : objectOf t w ≡ objectOf t k
+  pub last : (j : ℕ) → w < j → j < k → kindOf t j ≡ write → objectOf t j ≢ objectOf t k
+
+-- no event before k writes its cell
+abbrev pub SeesStart : Trace → ℕ → Type 0
+SeesStart t k = (j : ℕ) → 1 ≤ j → j < k → kindOf t j ≡ write → objectOf t j ≢ objectOf t k

@@ -40,10 +40,13 @@ pub record FirstRefusal (t : Trace) (x : Refusal) : Type 0 where
 
 -- ---- computed
 
+abbrev pub isKnownKind : ℕ → Bool
+isKnownKind c = leb read c && leb c release
+
 -- the refusal that event k gives, 0 for none: each test is asked only where those before it pass
 unfoldable pub eventRefusal : Trace → ℕ → ℕ
 eventRefusal t k =
-    cond (not (leb read (kindOf t k) && leb (kindOf t k) release)) 5
+    cond (not (isKnownKind (kindOf t k))) 5
     (cond (not (leb (threadOf t k) maxThread)) 6
     (cond (not (leb (objectOf t k) maxObject)) 7
     (cond (eqb (kindOf t k) acquire && not (isFree t (before k) k)) 8

@@ -1,5 +1,7 @@
 -- Question 6. The note is a part of one of the two lent slices.
 use Prim.Native.Nat.{ℕ}
+use mathlib.Core.Path.{_≡_}
+use mathlib.Core.Logic.{_≢_}
 use mathlib.Core.Bool.{cond}
 use mathlib.Core.Option.{Option, none, some}
 use mathlib.Core.List.{List}
@@ -9,7 +11,7 @@ use denote.Ref.{RefT}
 use Rattle.format.specs.Limits.{eventBytes}
 use Rattle.format.specs.Layout.{start}
 use Rattle.format.specs.declared.Refusal.{Refusal}
-use Rattle.judging.specs.Judged.{fileRefusal}
+use Rattle.judging.specs.Judged.{GoodFile, FileRefusal, fileRefusal}
 
 -- a lent slice of bytes: where it begins in memory (ptr), and its bytes (now)
 abbrev pub Slice : Type 0
@@ -27,7 +29,14 @@ whole x = record { place = x .ptr; bytes = x .now }
 abbrev pub front : ℕ → Slice → Part
 front m x = record { place = x .ptr; bytes = take m (x .now) }
 
--- the preamble, that is all before the first event; where it is empty, the operator's whole note; for a refused file the empty part at its front
+-- what each answer means: the file's bytes before the first event; where there are none, the whole of the operator's note;
+-- for a refused file the empty part at its front
+pub data Notes (file operator : Slice) : Part → Type 0 where
+  no-note : {r : Refusal} → FileRefusal eventBytes (file .now) r → Notes file operator (front 0 file)
+  own-note : GoodFile eventBytes (file .now) → start eventBytes (file .now) ≢ 0 → Notes file operator (front (start eventBytes (file .now)) file)
+  lent-note : GoodFile eventBytes (file .now) → start eventBytes (file .now) ≡ 0 → Notes file operator (whole operator)
+
+-- computed
 abbrev pub noteBy : Option Refusal → ℕ → Slice → Slice → Part
 noteBy none start file operator = cond (eqb start 0) (whole operator) (front start file)
 noteBy (some r) start file operator = front 0 file

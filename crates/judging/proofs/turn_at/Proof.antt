@@ -1,4 +1,4 @@
-use Rattle.judging.proofs.TurnLaws.{kind-low, kind-high, thread-high, object-high, acquires, was-held, releases, not-by-holder, passes}
+use Rattle.judging.proofs.TurnLaws.{kind-unknown, thread-over-limit, object-over-limit, taker-fits, object-below, acquires, was-held, releases, not-by-holder, passes}
 use borrow.Author.Needs.{needs}
 use Rattle.judging.proofs.turn_at.Statement.{statement}
 use Rattle.judging.proofs.turn_at.Tie as tie
@@ -9,16 +9,17 @@ turn-at-spec =
     (tie.spec
     (λ c κs. search needs)
     (λ c. search needs)
-    (λ c. search (kind-low, needs))
-    (λ c. search (kind-high, needs))
-    (λ c. search (thread-high, needs))
-    (λ c. search (object-high, needs))
-    (λ c. search needs)
-    (λ c. search needs)
+    (λ c κs. search needs)
+    (λ c. search (kind-unknown, needs))
+    (λ c κs. search needs)
+    (λ c. search (thread-over-limit, needs))
+    (λ c κs. search needs)
+    (λ c. search (object-over-limit, needs))
+    (λ c. search (taker-fits, needs))
+    (λ c. search (object-below, needs))
     (λ c. search (acquires, needs))
     (λ c. search (was-held, needs))
-    (λ c. search needs)
-    (λ c. search needs)
+    (λ c. search (object-below, needs))
     (λ c. search (releases, needs))
     (λ c. search (not-by-holder, needs))
     (λ c. search (passes, needs)))

@@ -1,0 +1,103 @@
+// Bytes from text: words of hex digits, two to a byte. A word that begins with a number and '*' stands that many times.
+ghost use mathlib.Core.Path.{_≡_};
+ghost use Prim.Native.Nat.{_≤_, _<_};
+ghost use lib.ListN.{length};
+
+// The first place from `from` on that holds `stop`, or the end.
+pub fn until(text: &[u8], from: usize, stop: u8) -> usize
+    requires { ⌜ from ≤ length (now text) ⌝ }
+    ensures { λ r. ⌜ (from ≤ r) × (r ≤ length (now (text .entry))) ⌝ }
+{
+    let mut e = from;
+    while e < text.len() {
+        if text[e] == stop {
+            return e;
+        }
+        e += 1;
+    }
+    e
+}
+
+fn digit(c: u8) -> u8
+    ensures { λ r. ⌜ r < 16 ⌝ }
+{
+    match c {
+        b'0'..=b'9' => c - b'0',
+        b'A'..=b'F' => c - b'A' + 10,
+        _ => 0,
+    }
+}
+
+fn wide(b: u8) -> usize
+    ensures { λ r. ⌜ r ≡ b ⌝ }
+{
+    b as usize
+}
+
+// The number, of at most four digits, before `end`.
+fn decimal(word: &[u8], end: usize) -> usize
+    requires { ⌜ end ≤ length (now word) ⌝ }
+{
+    let mut n = 0;
+    let mut i = 0;
+    while i < end {
+        if 1000 <= n {
+            return n;
+        }
+        n = n * 10 + wide(digit(word[i]));
+        i += 1;
+    }
+    n
+}
+
+fn put_hex(word: &[u8], file: &mut [u8], n: usize) -> usize
+    requires { ⌜ n ≤ length (now file) ⌝ }
+    ensures { λ r. ⌜ r ≤ length (now (file .entry)) ⌝ }
+{
+    let mut m = n;
+    let mut i = 1;
+    while i < word.len() {
+        if m == file.len() {
+            return m;
+        }
+        file[m] = digit(word[i - 1]) * 16 + digit(word[i]);
+        m += 1;
+        i += 2;
+    }
+    m
+}
+
+fn put_word(word: &[u8], file: &mut [u8], n: usize) -> usize
+    requires { ⌜ n ≤ length (now file) ⌝ }
+    ensures { λ r. ⌜ r ≤ length (now (file .entry)) ⌝ }
+{
+    let star = until(word, 0, b'*');
+    if star == word.len() {
+        return put_hex(word, file, n);
+    }
+    let mut left = decimal(word, star);
+    let mut m = n;
+    while 0 < left {
+        m = put_hex(&word[star + 1..], file, m);
+        left -= 1;
+    }
+    m
+}
+
+// The bytes of a line go behind the first n of the file; how many are there after it.
+pub fn put_line(line: &[u8], file: &mut [u8], n: usize) -> usize
+    requires { ⌜ n ≤ length (now file) ⌝ }
+    ensures { λ r. ⌜ r ≤ length (now (file .entry)) ⌝ }
+{
+    let mut m = n;
+    let mut i = 0;
+    while i < line.len() {
+        let e = until(line, i, b' ');
+        m = put_word(&line[i..e], file, m);
+        if e == line.len() {
+            return m;
+        }
+        i = e + 1;
+    }
+    m
+}
