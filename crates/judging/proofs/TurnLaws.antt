@@ -9,7 +9,7 @@ use mathlib.Core.Bool.{Bool, true, false, not}
 use mir.Val.{Fits}
 use mir.Syntax.{w8}
 use borrow.Author.Tests.{eq-eqb, ne-eqb, leb-true, leb-false, not-true, not-false}
-use Rattle.model.specs.Trace.{Trace, Event, at, read, acquire, release, threadOf, kindOf, objectOf}
+use Rattle.model.specs.Trace.{Trace, Event, at, acquire, release, threadOf, kindOf, objectOf}
 use Rattle.model.specs.Lists.{before}
 use Rattle.model.specs.Good.{KnownKind, maxThread, maxObject, holder}
 use Rattle.model.specs.Refusals.{InLimits, EventRefusal, unknown-kind, thread-over, object-over, lock-held, not-holder, isKnownKind}

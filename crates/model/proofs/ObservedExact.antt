@@ -1,12 +1,12 @@
 -- The observed write is the last write of the cell before the read, and the start where there is none.
-use Prim.Native.Nat.{ℕ, zero, suc, _≤_, _<_}
+use Prim.Native.Nat.{ℕ, zero, suc, _<_}
 use native.Mathlib.Omega.{arith}
-use mathlib.Core.Path.{_≡_, refl, sym, _∙_, ap}
+use mathlib.Core.Path.{_≡_, refl, sym, _∙_}
 use mathlib.Core.Logic.{_≢_, _↔_}
 use mathlib.Core.Bool.{Bool, true, false}
 use lib.Dec.{eqb, ltb}
 use borrow.Author.Tests.{eqb-true, eqb-false, ltb-true, ltb-false}
-use Rattle.model.specs.Trace.{Trace, write, kindOf, objectOf, does}
+use Rattle.model.specs.Trace.{Trace, write, objectOf, does}
 use Rattle.model.specs.Lists.{upTo, before, nearest}
 use Rattle.model.specs.Observed.{observed, LastBefore, SeesStart}
 use Rattle.model.proofs.Tests.{by-cases, clash, does-true, true-does}

@@ -1,14 +1,14 @@
 -- The ways through the questions.
-use Prim.Native.Nat.{ℕ, zero, suc, _<_}
+use Prim.Native.Nat.{ℕ, zero, suc, _≤_, _<_}
 use native.Mathlib.Omega.{arith}
 use mathlib.Core.Path.{_≡_, refl, sym, _∙_, ap}
 use mathlib.Core.List.{List}
-use lib.ListN.{length, take, List·getD-eq-default}
+use lib.ListN.{length, take}
 use lib.Seq.{length-take-le}
 use borrow.Author.Tests.{eq-eqb, ne-eqb}
 use mir.Val.{Fits}
 use mir.Syntax.{w16}
-use Rattle.model.specs.Trace.{Trace, Event, read, kindOf, noEvent}
+use Rattle.model.specs.Trace.{Trace, read, kindOf}
 use Rattle.model.specs.Lists.{threads}
 use Rattle.model.specs.Observed.{observed}
 use Rattle.model.specs.Good.{Good}
@@ -23,8 +23,9 @@ use Rattle.format.specs.declared.File.{File}
 use Rattle.format.specs.declared.File.the-variants.{Refused as FileRefused, Good as FileGood}
 use Rattle.judging.specs.Judged.{fileRefusal}
 use Rattle.judging.proofs.FileLaws.{judged-refused, judged-clean, judged-good, judged-placed}
+use Rattle.questions.proofs.AnswersExact.{event-valid}
 use Rattle.questions.specs.Answers.{answerJudge, sees, observedIn, answerObserved}
-use Rattle.questions.specs.Note.{Slice, whole, front, answerNote}
+use Rattle.questions.specs.Note.{Slice, Part, whole, front, answerNote}
 use Rattle.questions.specs.declared.Judgement.the-variants.{Refused as Judged, Good as GoodWith}
 use Rattle.questions.specs.declared.Observed.{Observed}
 use Rattle.questions.specs.declared.Observed.the-variants.{Refused as NotAsked, Write, Start, NotARead}
@@ -67,20 +68,16 @@ module _ (s : List ℕ) (f : File) (is : f ≡ fileOf eventBytes s (fileRefusal 
 
 -- ---- question 2, on good events
 
-no-event : (t : Trace) (k : ℕ) → length t < k → kindOf t k ≡ 0
-no-event t zero h = refl
-no-event t (suc k) h = ap (λ (e : Event). e .kind) (List·getD-eq-default t noEvent {n = k} (omega arith))
-
 module _ (t : Trace) (k : ℕ) where
   other : (kindOf t k ≡ read → ⊥) → NotARead ≡ observedIn t k
   unfolding observedIn
   other ne = rw (ne-eqb (kindOf t k) read ne)
 
   pub below : k < 1 → NotARead ≡ observedIn t k
-  below h = let z : k ≡ 0 = omega arith in other (rw z (λ e. omega arith))
+  below h = other (λ e. let v = event-valid t k (λ z. omega arith) in let p = v .positive in omega arith)
 
   pub above : (n : ℕ) → n ≡ length t → n < k → NotARead ≡ observedIn t k
-  above n e h = let z = no-event t k (omega arith) in other (λ e. omega arith)
+  above n l h = other (λ e. let v = event-valid t k (λ z. omega arith) in let b = v .bounded in omega arith)
 
   pub no-read : (d : ℕ) → d ≡ kindOf t k → (d ≡ read → ⊥) → NotARead ≡ observedIn t k
   no-read d e ne = other (λ q. ne (e ∙ q))
@@ -105,9 +102,9 @@ seen-fits t k w e ne f = let r = observed-range t k (λ z. ne (e ∙ z)) in let 
 -- ---- question 6
 
 module _ (file operator : Slice) (f : File) (is : f ≡ fileOf eventBytes (file .now) (fileRefusal eventBytes (file .now))) where
-  pub note-refused : (r : Refusal) → f ≡ FileRefused r → front 0 file ≡ answerNote file operator
+  pub note-refused : (r : Refusal) → f ≡ FileRefused r → (p : Part) → p ≡ front 0 file → p ≡ answerNote file operator
   unfolding answerNote
-  note-refused r e = rw (judged-refused (file .now) f is r e)
+  note-refused r e p q = rw (judged-refused (file .now) f is r e) q
 
   module _ (t : Place) (e : f ≡ FileGood t) where
     begins : t .start ≡ start eventBytes (file .now)
@@ -117,14 +114,12 @@ module _ (file operator : Slice) (f : File) (is : f ≡ fileOf eventBytes (file 
     unfolding answerNote
     note-operator z = rw (judged-clean (file .now) f is t e, ← begins, eq-eqb _ _ z)
 
-    pub note-preamble : (t .start ≡ 0 → ⊥) → front (t .start) file ≡ answerNote file operator
+    pub note-preamble : (t .start ≡ 0 → ⊥) → (p : Part) → p ≡ front (t .start) file → p ≡ answerNote file operator
     unfolding answerNote
-    note-preamble ne = rw (judged-clean (file .now) f is t e, ← begins, ne-eqb _ _ ne)
+    note-preamble ne p q = rw (judged-clean (file .now) f is t e, ← begins, ne-eqb _ _ ne) q
 
-module _ (s : List ℕ) (f : File) (is : f ≡ fileOf eventBytes s (fileRefusal eventBytes s)) (t : Place) (e : f ≡ FileGood t) where
-  pub note-length : t .start ≡ length (take (t .start) s)
-  note-length =
-      let p = judged-placed s f is t e in
-      let b : t .start ≡ start eventBytes s = ap (λ (x : Place). x .start) (p .place) in
-      let l = filled eventBytes s (p .layout) in
-      sym (length-take-le (t .start) s (omega arith))
+    pub note-within : t .start ≤ length (file .now)
+    note-within = let b = begins in let l = filled eventBytes (file .now) (judged-good (file .now) f is t e .layout) in omega arith
+
+pub front-length : (m : ℕ) (s : List ℕ) → m ≤ length s → m ≡ length (take m s)
+front-length m s h = sym (length-take-le m s h)

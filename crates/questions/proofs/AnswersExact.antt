@@ -1,7 +1,7 @@
 -- Each answer to a question is given exactly in its case.
 use Prim.Native.Nat.{ℕ, zero, suc, _≤_}
 use native.Mathlib.Omega.{arith}
-use mathlib.Core.Path.{_≡_, refl, sym, _∙_, ap}
+use mathlib.Core.Path.{_≡_, refl, sym, ap}
 use mathlib.Core.Logic.{_≢_, _↔_}
 use mathlib.Core.Option.{Option, none, some}
 use mathlib.Core.List.{List}
@@ -9,16 +9,16 @@ use lib.ListN.{length, List·getD-eq-default}
 use lib.Dec.{eqb, ltb}
 use borrow.Author.Tests.{eqb-true, eqb-false, eq-eqb, ne-eqb, ltb-true, ltb-false}
 use Rattle.model.specs.Trace.{Trace, Event, Valid, read, kindOf, noEvent}
-use Rattle.model.specs.Observed.{observed, LastBefore}
+use Rattle.model.specs.Observed.{observed}
 use Rattle.model.proofs.Tests.{by-cases}
 use Rattle.model.proofs.ObservedExact.{observed-write-exactly, observed-start-exactly}
 use Rattle.format.specs.Limits.{eventBytes}
 use Rattle.format.specs.Layout.{events, start}
 use Rattle.format.specs.declared.Refusal.{Refusal}
-use Rattle.judging.specs.Judged.{GoodFile, FileAnswer, fileRefusal}
+use Rattle.judging.specs.Judged.{FileAnswer, fileRefusal}
 use Rattle.judging.proofs.JudgedExact.{file-exactly}
 use Rattle.questions.specs.Answers.{Judges, judge-refused, judge-good, judgement, answerJudge, Reads, ObservedOf, sees-write, sees-start, no-read, Observes, observed-refused, observed-good, sees, observedIn, observedBy, answerObserved}
-use Rattle.questions.specs.Note.{Slice, Part, whole, front, Notes, no-note, own-note, lent-note, noteBy, answerNote}
+use Rattle.questions.specs.Note.{Slice, Part, Notes, no-note, own-note, lent-note, noteBy, answerNote}
 use Rattle.questions.specs.declared.Judgement.{Judgement}
 use Rattle.questions.specs.declared.Observed.{Observed}
 use Rattle.questions.specs.declared.Observed.the-variants.{Write}
@@ -46,7 +46,7 @@ module _ (s : List ℕ) where
 -- ---- question 2
 
 -- what is of some kind is an event
-event-valid : (t : Trace) (k : ℕ) → kindOf t k ≢ 0 → Valid t k
+pub event-valid : (t : Trace) (k : ℕ) → kindOf t k ≢ 0 → Valid t k
 event-valid t zero ne = absurd (ne refl)
 event-valid t (suc k) ne =
     by-cases (ltb k (length t))

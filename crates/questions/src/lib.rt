@@ -3,9 +3,11 @@ use format::Event;
 use format::File;
 use format::Refusal;
 ghost use mathlib.Core.Path.{_≡_};
+ghost use Prim.Native.Nat.{_≤_};
+ghost use lib.ListN.{length};
 ghost use Rattle.format.specs.Bytes.{trace};
 ghost use Rattle.questions.specs.Answers.{answerJudge, observedIn, answerObserved};
-ghost use Rattle.questions.specs.Note.{whole, answerNote};
+ghost use Rattle.questions.specs.Note.{whole, front, answerNote};
 
 pub enum Judgement {
     Refused(Refusal),
@@ -66,15 +68,27 @@ pub fn observed_write(file: &[u8], k: u16) -> Observed
     }
 }
 
+// The first m bytes of a slice.
+fn front<'a>(s: &'a [u8], m: usize) -> &'a [u8]
+    requires { ⌜ m ≤ length (now s) ⌝ }
+    ensures { λ r. ⌜ whole r ≡ front m (s .entry) ⌝ }
+{
+    &s[..m]
+}
+
 // Question 6: the preamble, or the operator's own note where that is empty.
 pub fn note<'a>(file: &'a [u8], operator: &'a [u8]) -> &'a [u8]
     ensures { λ r. ⌜ whole r ≡ answerNote (file .entry) (operator .entry) ⌝ }
 {
     match judging::judge(file) {
-        File::Refused(_) => &file[..0],
+        File::Refused(_) => front(file, 0),
         File::Good(t) => {
             let start = t.start;
-            if start == 0 { operator } else { &file[..start] }
+            if start == 0 {
+                operator
+            } else {
+                front(file, start)
+            }
         }
     }
 }

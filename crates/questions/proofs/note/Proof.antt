@@ -1,4 +1,4 @@
-use Rattle.questions.proofs.AnswerLaws.{note-length, note-refused, note-operator, note-preamble}
+use Rattle.questions.proofs.AnswerLaws.{note-within, note-refused, note-operator, note-preamble}
 use borrow.Author.Needs.{needs}
 use Rattle.questions.proofs.note.Statement.{statement}
 use Rattle.questions.proofs.note.Tie as tie
@@ -9,9 +9,9 @@ note-spec =
     (tie.spec
     (λ c κs. search needs)
     (λ c. search needs)
+    (λ c κs. search needs)
     (λ c. search needs)
-    (λ c. search needs)
-    (λ c. search (note-length, needs))
+    (λ c κs. search (note-within, needs))
     (λ c. search (note-refused, needs))
     (λ c. search (note-operator, needs))
     (λ c. search (note-preamble, needs)))
