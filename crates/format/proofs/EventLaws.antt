@@ -5,14 +5,10 @@ use native.Mathlib.Nat.{mul-suc, mul-zero}
 use mathlib.Core.Path.{_≡_, refl, ap, sym, _∙_}
 use mathlib.Core.List.{List}
 use lib.ListN.{length, getD}
-use mathlib.Core.Bool.{false}
-use lib.Dec.{leb}
-use borrow.Author.Tests.{lt-leb, le-leb}
-use Rattle.model.specs.Refusals.{isKnownKind}
-use Rattle.model.specs.Trace.{Event, noEvent, at, read, release, threadOf, kindOf, objectOf, Valid}
-use Rattle.format.specs.Limits.{eventBytes}
+use Rattle.model.specs.Trace.{Event, noEvent, at, threadOf, kindOf, objectOf, Valid}
+use Rattle.limits.specs.Limits.{eventBytes}
 use Rattle.format.specs.Bytes.{byte, number16, eventAt, eventsFrom, traceOf, trace, plain}
-use Rattle.format.specs.declared.Event.{Event as Decoded}
+use Rattle.limits.specs.declared.Event.{Event as Decoded}
 
 pub length-events : (z : ℕ) (s : List ℕ) (p n : ℕ) → length (eventsFrom z s p n) ≡ n
 unfolding eventsFrom
@@ -59,11 +55,3 @@ count-is s = sym (trace-length eventBytes s)
 
 pub event-is : (s : List ℕ) (k : ℕ) (e : Decoded) → e .thread .number ≡ threadOf (trace s) k → e .kind ≡ kindOf (trace s) k → e .object ≡ objectOf (trace s) k → plain e ≡ at (trace s) k
 event-is s k e t d o = rw (t, d, o)
-
--- ---- the kinds
-
-pub kind-low : (c : ℕ) → c < read → false ≡ isKnownKind c
-kind-low c h = simp (lt-leb _ _ h)
-
-pub kind-rest : (c : ℕ) → read ≤ c → leb c release ≡ isKnownKind c
-kind-rest c h = simp (le-leb _ _ h)

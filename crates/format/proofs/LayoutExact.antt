@@ -10,29 +10,27 @@ use lib.Dec.{eqb, leb}
 use borrow.Author.Tests.{eqb-true, eq-eqb, leb-true, le-leb}
 use Rattle.model.specs.Good.{maxEvents}
 use Rattle.model.proofs.Tests.{by-cases, both, true-both, false-test, test-false}
-use Rattle.format.specs.Limits.{trailerBytes, maxBytes, markFirst, markSecond}
+use Rattle.limits.specs.Limits.{trailerBytes, maxBytes, areBytes, markFirst, markSecond}
 use Rattle.format.specs.Bytes.{byte}
-use Rattle.format.specs.Layout.{distance, count, Sized, Marked, Pointed, LayoutAnswer, bad-size, wrong-mark, too-many, bad-distance, isSized, isMarked, isPointed, layoutRefusal}
-use Rattle.format.specs.declared.Refusal.{Refusal}
+use Rattle.format.specs.Layout.{distance, count, Sized, Marked, Pointed, LayoutAnswer, bad-size, wrong-mark, too-many, bad-distance, isMarked, isPointed, layoutRefusal}
+use Rattle.limits.specs.declared.Refusal.{Refusal}
 
 module _ (s : List ℕ) where
-  sized-true : isSized s ≡ true → Sized s
-  unfolding isSized
+  pub sized-true : areBytes (length s) ≡ true → Sized s
   sized-true e =
       let p = both (leb trailerBytes (length s)) (leb (length s) maxBytes) e in
       record { least = leb-true trailerBytes (length s) (p .0); most = leb-true (length s) maxBytes (p .1) }
 
-  true-sized : Sized s → isSized s ≡ true
-  unfolding isSized
+  pub true-sized : Sized s → areBytes (length s) ≡ true
   true-sized p = true-both (le-leb trailerBytes (length s) (p .least)) (le-leb (length s) maxBytes (p .most))
 
-  marked-true : isMarked s ≡ true → Marked s
+  pub marked-true : isMarked s ≡ true → Marked s
   unfolding isMarked
   marked-true e =
       let p = both (eqb (byte s (length s - 2)) markFirst) (eqb (byte s (length s - 1)) markSecond) e in
       record { first = eqb-true _ _ (p .0); second = eqb-true _ _ (p .1) }
 
-  true-marked : Marked s → isMarked s ≡ true
+  pub true-marked : Marked s → isMarked s ≡ true
   unfolding isMarked
   true-marked p = true-both (eq-eqb _ _ (p .first)) (eq-eqb _ _ (p .second))
 
@@ -50,7 +48,7 @@ module _ (s : List ℕ) where
     answer : LayoutAnswer z s (layoutRefusal z s)
     unfolding layoutRefusal
     answer =
-        by-cases (isSized s)
+        by-cases (areBytes (length s))
         (λ a.
         by-cases (isMarked s)
         (λ b.

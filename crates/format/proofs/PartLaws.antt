@@ -8,11 +8,11 @@ use mathlib.Core.List.{List, _++_}
 use lib.ListN.{length, take, drop, take-append-drop, length-take, length-drop}
 use lib.Seq.{drop-drop, getD-take, getD-drop, length-take-le}
 use Rattle.model.specs.Trace.{at, Valid}
-use Rattle.format.specs.Limits.{eventBytes, trailerBytes}
+use Rattle.limits.specs.Limits.{eventBytes, trailerBytes}
 use Rattle.format.specs.Bytes.{byte, eventAt}
 use Rattle.format.specs.Layout.{count, start, preamble, eventPart, events, trailer, Layout, Parts, placeOf, fileOf, Placed}
-use Rattle.format.specs.declared.Trace.{Trace as Place}
-use Rattle.format.specs.declared.Refusal.{Refusal}
+use Rattle.limits.specs.declared.Trace.{Trace as Place}
+use Rattle.limits.specs.declared.Refusal.{Refusal}
 use Rattle.format.specs.declared.File.the-variants.{Refused, Good}
 use Rattle.format.proofs.EventLaws.{trace-length, trace-at}
 

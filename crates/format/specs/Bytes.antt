@@ -3,8 +3,8 @@ use Prim.Native.Nat.{ℕ, zero, suc, _+_, _*_, _/_}
 use mathlib.Core.List.{List, [], _∷_}
 use lib.ListN.{length, getD}
 use Rattle.model.specs.Trace.{Event, Trace}
-use Rattle.format.specs.Limits.{eventBytes}
-use Rattle.format.specs.declared.Event.{Event as Decoded}
+use Rattle.limits.specs.Limits.{eventBytes}
+use Rattle.limits.specs.declared.Event.{Event as Decoded}
 
 abbrev pub byte : List ℕ → ℕ → ℕ
 byte s p = getD s p 0

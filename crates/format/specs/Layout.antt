@@ -8,11 +8,11 @@ use lib.ListN.{length, take, drop}
 use lib.Dec.{eqb, leb}
 use Rattle.model.specs.Trace.{Trace, Valid, at}
 use Rattle.model.specs.Good.{maxEvents}
-use Rattle.format.specs.Limits.{eventBytes, trailerBytes, maxBytes, markFirst, markSecond}
+use Rattle.limits.specs.Limits.{eventBytes, trailerBytes, maxBytes, areBytes, markFirst, markSecond}
 use Rattle.format.specs.Bytes.{byte, number16, number32, eventAt, traceOf}
-use Rattle.format.specs.declared.Refusal.{Refusal}
-use Rattle.format.specs.declared.Refusal.the-variants.{FileSize, Mark, EventCount, Distance}
-use Rattle.format.specs.declared.Trace.{Trace as Place}
+use Rattle.limits.specs.declared.Refusal.{Refusal}
+use Rattle.limits.specs.declared.Refusal.the-variants.{FileSize, Mark, EventCount, Distance}
+use Rattle.limits.specs.declared.Trace.{Trace as Place}
 use Rattle.format.specs.declared.File.{File}
 use Rattle.format.specs.declared.File.the-variants.{Refused, Good}
 
@@ -87,9 +87,6 @@ LayoutAnswer z s (some r) = LayoutRefusal z s r
 
 -- ---- computed
 
-unfoldable pub isSized : List ℕ → Bool
-isSized s = leb trailerBytes (length s) && leb (length s) maxBytes
-
 unfoldable pub isMarked : List ℕ → Bool
 isMarked s = eqb (byte s (length s - 2)) markFirst && eqb (byte s (length s - 1)) markSecond
 
@@ -98,7 +95,7 @@ isPointed z s = eqb (distance s) (trailerBytes + z * count s) && leb (distance s
 
 unfoldable pub layoutRefusal : ℕ → List ℕ → Option Refusal
 layoutRefusal z s =
-    cond (not (isSized s)) (some FileSize)
+    cond (not (areBytes (length s))) (some FileSize)
     (cond (not (isMarked s)) (some Mark)
     (cond (not (leb (count s) maxEvents)) (some EventCount)
     (cond (not (isPointed z s)) (some Distance) none)))

@@ -1,5 +1,3 @@
--- The format of a recording's file, in the order of knowledge.
-pub mod Limits
+-- The format of a recording's file.
 pub mod Bytes
-pub mod Refusals
 pub mod Layout

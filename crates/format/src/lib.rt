@@ -1,153 +1,20 @@
-// The format of a recording's file: the limits, the refusals, the layout, and events out of bytes. Nothing above this crate speaks of bytes.
+// The format of a recording's file: the layout, and events out of bytes. Nothing above this crate speaks of bytes.
+use limits::Event;
+use limits::Refusal;
+use limits::Thread;
+use limits::Trace;
 ghost use mathlib.Core.Path.{_≡_};
-ghost use Prim.Native.Nat.{_+_, _*_, _≤_, _<_};
+ghost use Prim.Native.Nat.{_+_, _≤_, _<_};
 ghost use lib.ListN.{length};
-ghost use lib.Dec.{leb};
 ghost use Rattle.model.specs.Trace.{Valid, at, threadOf, kindOf, objectOf};
-ghost use Rattle.model.specs.Good.{maxThread, maxObject};
-ghost use Rattle.model.specs.Refusals.{isKnownKind};
-ghost use Rattle.format.specs.Limits.{eventBytes};
+ghost use Rattle.limits.specs.Limits.{eventBytes};
 ghost use Rattle.format.specs.Bytes.{number16, number32, trace, plain};
-ghost use Rattle.format.specs.Refusals.{numberOf, eventOf};
-ghost use Rattle.format.specs.Layout.{layoutRefusal, fileOf, Placed, eventPart};
-
-// A thread, by its number.
-pub struct Thread {
-    pub number: u8,
-}
-
-impl Thread {
-    pub const MAX: u8 = 15;
-
-    pub fn in_limit(self) -> bool
-        ensures { λ r. ⌜ r ≡ leb (self .number) maxThread ⌝ }
-    {
-        self.number <= Thread::MAX
-    }
-}
-
-// An event: its thread, its kind, and its object: the cell of a read or write, or the lock of an acquire or release.
-pub struct Event {
-    pub thread: Thread,
-    pub kind: u8,
-    pub object: usize,
-}
-
-impl Event {
-    pub const BYTES: usize = 4;
-
-    pub const READ: u8 = 1;
-
-    pub const WRITE: u8 = 2;
-
-    pub const ACQUIRE: u8 = 3;
-
-    pub const RELEASE: u8 = 4;
-
-    pub const MAX_OBJECT: usize = 255;
-
-    pub fn kind_known(self) -> bool
-        ensures { λ r. ⌜ r ≡ isKnownKind (self .kind) ⌝ }
-    {
-        if self.kind < Event::READ {
-            return false;
-        }
-        self.kind <= Event::RELEASE
-    }
-
-    pub fn object_in_limit(self) -> bool
-        ensures { λ r. ⌜ r ≡ leb (self .object) maxObject ⌝ }
-    {
-        self.object <= Event::MAX_OBJECT
-    }
-}
-
-// Where the events of a recording stand in its file, and how many they are.
-pub struct Trace {
-    pub start: usize,
-    pub events: usize,
-}
-
-impl Trace {
-    pub const MAX_EVENTS: usize = 512;
-
-    pub const MAX_BYTES: usize = 4096;
-
-    pub const TRAILER_BYTES: usize = 8;
-
-    pub const MARK_FIRST: u8 = 0x50;
-
-    pub const MARK_SECOND: u8 = 0x4C;
-}
-
-// Why a file or a question is refused. `numberOf` gives each case its number in the paper.
-pub enum Refusal {
-    FileSize,
-    Mark,
-    EventCount,
-    Distance,
-    Kind(u16),
-    Thread(u16),
-    Object(u16),
-    LockHeld(u16),
-    NotHolder(u16),
-    ListShort,
-    NotConflicting,
-    AreaShort,
-}
-
-// The event number that goes with a refusal, where one does.
-pub enum EventNumber {
-    Absent,
-    At(u16),
-}
+ghost use Rattle.format.specs.Layout.{Sized, isMarked, layoutRefusal, fileOf, Placed, eventPart};
 
 // What reading a file gives.
 pub enum File {
     Refused(Refusal),
     Good(Trace),
-}
-
-impl Refusal {
-    // The number of a refusal in the paper.
-    pub fn number(self) -> u8
-        ensures { λ r. ⌜ r ≡ numberOf self ⌝ }
-    {
-        match self {
-            Refusal::FileSize => 1,
-            Refusal::Mark => 2,
-            Refusal::EventCount => 3,
-            Refusal::Distance => 4,
-            Refusal::Kind(_) => 5,
-            Refusal::Thread(_) => 6,
-            Refusal::Object(_) => 7,
-            Refusal::LockHeld(_) => 8,
-            Refusal::NotHolder(_) => 9,
-            Refusal::ListShort => 10,
-            Refusal::NotConflicting => 11,
-            Refusal::AreaShort => 12,
-        }
-    }
-
-    // The event that a refusal speaks of.
-    pub fn event(self) -> EventNumber
-        ensures { λ r. ⌜ r ≡ eventOf self ⌝ }
-    {
-        match self {
-            Refusal::Kind(k) => EventNumber::At(k),
-            Refusal::Thread(k) => EventNumber::At(k),
-            Refusal::Object(k) => EventNumber::At(k),
-            Refusal::LockHeld(k) => EventNumber::At(k),
-            Refusal::NotHolder(k) => EventNumber::At(k),
-            Refusal::FileSize => EventNumber::Absent,
-            Refusal::Mark => EventNumber::Absent,
-            Refusal::EventCount => EventNumber::Absent,
-            Refusal::Distance => EventNumber::Absent,
-            Refusal::ListShort => EventNumber::Absent,
-            Refusal::NotConflicting => EventNumber::Absent,
-            Refusal::AreaShort => EventNumber::Absent,
-        }
-    }
 }
 
 fn wide(b: u8) -> usize
@@ -172,25 +39,29 @@ fn read32(s: &[u8], at: usize) -> usize
     read16(s, at) + 65536 * read16(s, at + 2)
 }
 
-// Refusals 1 to 4, in their order.
-pub fn read(file: &[u8]) -> File
-    ensures { λ r. ⌜ r ≡ fileOf eventBytes (now (file .entry)) (layoutRefusal eventBytes (now (file .entry))) ⌝ }
+// Has the file the mark?
+fn marked(file: &[u8]) -> bool
+    requires { ⌜ Sized (now file) ⌝ }
+    ensures { λ r. ⌜ r ≡ isMarked (now (file .entry)) ⌝ }
 {
     let len = file.len();
-    if len < Trace::TRAILER_BYTES {
-        return File::Refused(Refusal::FileSize);
-    }
-    if Trace::MAX_BYTES < len {
-        return File::Refused(Refusal::FileSize);
-    }
     if file[len - 2] != Trace::MARK_FIRST {
+        return false;
+    }
+    file[len - 1] == Trace::MARK_SECOND
+}
+
+// Refusals 2 to 4, in their order.
+fn read_trailer(file: &[u8]) -> File
+    requires { ⌜ Sized (now file) ⌝ }
+    ensures { λ r. ⌜ r ≡ fileOf eventBytes (now (file .entry)) (layoutRefusal eventBytes (now (file .entry))) ⌝ }
+{
+    if !marked(file) {
         return File::Refused(Refusal::Mark);
     }
-    if file[len - 1] != Trace::MARK_SECOND {
-        return File::Refused(Refusal::Mark);
-    }
+    let len = file.len();
     let events = read16(file, len - 4);
-    if Trace::MAX_EVENTS < events {
+    if !Trace::events_in_limit(events) {
         return File::Refused(Refusal::EventCount);
     }
     let distance = read32(file, len - Trace::TRAILER_BYTES);
@@ -204,6 +75,16 @@ pub fn read(file: &[u8]) -> File
         start: len - distance,
         events,
     })
+}
+
+// Refusals 1 to 4, in their order.
+pub fn read(file: &[u8]) -> File
+    ensures { λ r. ⌜ r ≡ fileOf eventBytes (now (file .entry)) (layoutRefusal eventBytes (now (file .entry))) ⌝ }
+{
+    if !Trace::bytes_in_limit(file.len()) {
+        return File::Refused(Refusal::FileSize);
+    }
+    read_trailer(file)
 }
 
 // The bytes of the events of a file that has been read.

@@ -7,13 +7,13 @@ use mathlib.Core.List.{List}
 use lib.ListN.{length}
 use Rattle.model.specs.Good.{maxEvents}
 use Rattle.model.specs.Refusals.{refusal}
-use Rattle.format.specs.Limits.{eventBytes}
+use Rattle.limits.specs.Limits.{eventBytes}
 use Rattle.format.specs.Bytes.{trace}
 use Rattle.format.specs.Layout.{Layout, Placed, eventPart, events, layoutRefusal, fileOf}
 use Rattle.format.proofs.LayoutExact.{layout-exactly}
 use Rattle.format.proofs.PartLaws.{number-of-events, read-good, read-refused}
-use Rattle.format.specs.declared.Refusal.{Refusal}
-use Rattle.format.specs.declared.Trace.{Trace as Place}
+use Rattle.limits.specs.declared.Refusal.{Refusal}
+use Rattle.limits.specs.declared.Trace.{Trace as Place}
 use Rattle.format.specs.declared.File.{File}
 use Rattle.format.specs.declared.File.the-variants.{Refused as FileRefused, Good as FileGood}
 use Rattle.judging.specs.Judged.{GoodFile, named, fileRefusal}

@@ -10,13 +10,13 @@ use Rattle.model.specs.Trace.{Trace}
 use Rattle.model.specs.Refusals.{Refusal as EventRefused, EventRefusal, unknown-kind, thread-over, object-over, lock-held, not-holder, refusal}
 use Rattle.model.proofs.Tests.{by-cases}
 use Rattle.model.proofs.RefusalsExact.{refusal-exactly, good-exactly}
-use Rattle.format.specs.Refusals.{numberOf, eventOf}
+use Rattle.limits.specs.Refusals.{numberOf, eventOf}
 use Rattle.format.specs.Layout.{Layout, layoutRefusal, events}
 use Rattle.format.proofs.LayoutExact.{layout-exactly}
 use Rattle.format.proofs.PartLaws.{number-of-events}
-use Rattle.format.specs.declared.Refusal.{Refusal}
-use Rattle.format.specs.declared.Refusal.the-variants.{FileSize, Mark, EventCount, Distance, Kind, Thread, Object, LockHeld, NotHolder, ListShort, NotConflicting, AreaShort}
-use Rattle.format.specs.declared.EventNumber.the-variants.{At}
+use Rattle.limits.specs.declared.Refusal.{Refusal}
+use Rattle.limits.specs.declared.Refusal.the-variants.{FileSize, Mark, EventCount, Distance, Kind, Thread, Object, LockHeld, NotHolder, ListShort, NotConflicting, AreaShort}
+use Rattle.limits.specs.declared.EventNumber.the-variants.{At}
 use Rattle.judging.specs.Judged.{by-layout, by-event, FileAnswer, atEvent, named, orElse, fileRefusal}
 
 -- ---- the refusal of an event has the paper's number and the event's

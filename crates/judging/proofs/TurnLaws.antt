@@ -16,8 +16,8 @@ use Rattle.model.specs.Refusals.{InLimits, EventRefusal, unknown-kind, thread-o
 use Rattle.model.proofs.RefusalsExact.{GoodEvent, known-true, true-known, good-clean, event-refusal-exactly}
 use Rattle.model.proofs.Tests.{test-false}
 use Rattle.format.specs.Bytes.{plain}
-use Rattle.format.specs.declared.Event.{Event as Decoded}
-use Rattle.format.specs.declared.Refusal.the-variants.{Kind, Thread, Object, LockHeld, NotHolder}
+use Rattle.limits.specs.declared.Event.{Event as Decoded}
+use Rattle.limits.specs.declared.Refusal.the-variants.{Kind, Thread, Object, LockHeld, NotHolder}
 use Rattle.judging.specs.Judged.{atEvent}
 use Rattle.judging.specs.Walk.{Ready, turnOf}
 use Rattle.judging.specs.declared.Turn.the-variants.{Pass, Hold, Stop}

@@ -16,7 +16,7 @@ use Rattle.model.specs.Good.{maxEvents, maxObject, holder}
 use Rattle.model.specs.Refusals.{eventRefusal, refusal}
 use Rattle.model.proofs.Tests.{by-cases, true-does, false-does, does-true, false-test}
 use Rattle.model.proofs.RefusalsExact.{refused-first, refused-none, clean-good}
-use Rattle.format.specs.declared.Refusal.{Refusal}
+use Rattle.limits.specs.declared.Refusal.{Refusal}
 use Rattle.judging.specs.Judged.{atEvent, named}
 use Rattle.judging.specs.Walk.{noLocks, LockTable, Ready, locking, orTurn, turnOf, outcomeOf}
 use Rattle.judging.specs.declared.Locks.{Locks}

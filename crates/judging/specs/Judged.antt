@@ -7,11 +7,11 @@ use mathlib.Core.List.{List}
 use lib.Dec.{eqb}
 use Rattle.model.specs.Good.{Good}
 use Rattle.model.specs.Refusals.{Refusal as EventRefused, FirstRefusal, refusal}
-use Rattle.format.specs.Refusals.{numberOf, eventOf}
+use Rattle.limits.specs.Refusals.{numberOf, eventOf}
 use Rattle.format.specs.Layout.{Layout, LayoutRefusal, layoutRefusal, events}
-use Rattle.format.specs.declared.Refusal.{Refusal}
-use Rattle.format.specs.declared.Refusal.the-variants.{Kind, Thread, Object, LockHeld, NotHolder}
-use Rattle.format.specs.declared.EventNumber.the-variants.{At}
+use Rattle.limits.specs.declared.Refusal.{Refusal}
+use Rattle.limits.specs.declared.Refusal.the-variants.{Kind, Thread, Object, LockHeld, NotHolder}
+use Rattle.limits.specs.declared.EventNumber.the-variants.{At}
 
 -- ---- what the answer means
 

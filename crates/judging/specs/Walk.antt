@@ -10,7 +10,7 @@ use Rattle.model.specs.Trace.{Trace, Valid, acquire, release, threadOf, kindOf}
 use Rattle.model.specs.Lists.{before}
 use Rattle.model.specs.Good.{maxEvents, maxObject, holder}
 use Rattle.model.specs.Refusals.{eventRefusal}
-use Rattle.format.specs.declared.Refusal.{Refusal}
+use Rattle.limits.specs.declared.Refusal.{Refusal}
 use Rattle.judging.specs.Judged.{atEvent}
 use Rattle.judging.specs.declared.Turn.{Turn}
 use Rattle.judging.specs.declared.Turn.the-variants.{Pass, Hold, Stop}

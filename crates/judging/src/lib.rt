@@ -1,14 +1,14 @@
 // Judging a file: refusals 1 to 9 in their order, and the number of threads of a good one.
-use format::Event;
 use format::File;
-use format::Refusal;
+use limits::Event;
+use limits::Refusal;
 ghost use mathlib.Core.Path.{_≡_};
 ghost use Prim.Native.Nat.{_≤_};
 ghost use lib.ListN.{length};
 ghost use Rattle.model.specs.Good.{maxEvents, Good};
 ghost use Rattle.model.specs.Refusals.{refusal};
 ghost use Rattle.model.specs.Lists.{threads};
-ghost use Rattle.format.specs.Limits.{eventBytes};
+ghost use Rattle.limits.specs.Limits.{eventBytes};
 ghost use Rattle.format.specs.Bytes.{trace};
 ghost use Rattle.format.specs.Layout.{fileOf};
 ghost use Rattle.judging.specs.Judged.{named, fileRefusal};

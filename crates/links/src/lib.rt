@@ -1,5 +1,5 @@
 // What an event is linked to: the observed write of a read.
-use format::Event;
+use limits::Event;
 ghost use mathlib.Core.Path.{_≡_};
 ghost use Rattle.model.specs.Trace.{Valid, write, does};
 ghost use Rattle.model.specs.Observed.{observed};

@@ -13,12 +13,12 @@ use Rattle.model.specs.Lists.{threads}
 use Rattle.model.specs.Observed.{observed}
 use Rattle.model.specs.Good.{Good}
 use Rattle.model.proofs.Histories.{observed-range}
-use Rattle.format.specs.Limits.{eventBytes}
+use Rattle.limits.specs.Limits.{eventBytes}
 use Rattle.format.specs.Bytes.{trace}
 use Rattle.format.specs.Layout.{start, eventPart, events, fileOf}
 use Rattle.format.proofs.PartLaws.{number-of-events, filled}
-use Rattle.format.specs.declared.Refusal.{Refusal}
-use Rattle.format.specs.declared.Trace.{Trace as Place}
+use Rattle.limits.specs.declared.Refusal.{Refusal}
+use Rattle.limits.specs.declared.Trace.{Trace as Place}
 use Rattle.format.specs.declared.File.{File}
 use Rattle.format.specs.declared.File.the-variants.{Refused as FileRefused, Good as FileGood}
 use Rattle.judging.specs.Judged.{fileRefusal}

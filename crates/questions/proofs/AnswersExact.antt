@@ -12,9 +12,9 @@ use Rattle.model.specs.Trace.{Trace, Event, Valid, read, kindOf, noEvent}
 use Rattle.model.specs.Observed.{observed}
 use Rattle.model.proofs.Tests.{by-cases}
 use Rattle.model.proofs.ObservedExact.{observed-write-exactly, observed-start-exactly}
-use Rattle.format.specs.Limits.{eventBytes}
+use Rattle.limits.specs.Limits.{eventBytes}
 use Rattle.format.specs.Layout.{events, start}
-use Rattle.format.specs.declared.Refusal.{Refusal}
+use Rattle.limits.specs.declared.Refusal.{Refusal}
 use Rattle.judging.specs.Judged.{FileAnswer, fileRefusal}
 use Rattle.judging.proofs.JudgedExact.{file-exactly}
 use Rattle.questions.specs.Answers.{Judges, judge-refused, judge-good, judgement, answerJudge, Reads, ObservedOf, sees-write, sees-start, no-read, Observes, observed-refused, observed-good, sees, observedIn, observedBy, answerObserved}

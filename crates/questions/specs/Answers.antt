@@ -9,9 +9,9 @@ use lib.Dec.{eqb}
 use Rattle.model.specs.Trace.{Trace, Valid, read, kindOf}
 use Rattle.model.specs.Lists.{threads}
 use Rattle.model.specs.Observed.{observed, LastBefore, SeesStart}
-use Rattle.format.specs.Limits.{eventBytes}
+use Rattle.limits.specs.Limits.{eventBytes}
 use Rattle.format.specs.Layout.{events}
-use Rattle.format.specs.declared.Refusal.{Refusal}
+use Rattle.limits.specs.declared.Refusal.{Refusal}
 use Rattle.judging.specs.Judged.{GoodFile, FileRefusal, fileRefusal}
 use Rattle.questions.specs.declared.Judgement.{Judgement}
 use Rattle.questions.specs.declared.Judgement.the-variants.{Refused as JudgedRefused, Good}

@@ -8,9 +8,9 @@ use mathlib.Core.List.{List}
 use lib.ListN.{take}
 use lib.Dec.{eqb}
 use denote.Ref.{RefT}
-use Rattle.format.specs.Limits.{eventBytes}
+use Rattle.limits.specs.Limits.{eventBytes}
 use Rattle.format.specs.Layout.{start}
-use Rattle.format.specs.declared.Refusal.{Refusal}
+use Rattle.limits.specs.declared.Refusal.{Refusal}
 use Rattle.judging.specs.Judged.{GoodFile, FileRefusal, fileRefusal}
 
 -- a lent slice of bytes: where it begins in memory (ptr), and its bytes (now)

@@ -1,7 +1,7 @@
 // The public questions. Each takes a file's bytes, judges them first, and asks nothing of its caller.
-use format::Event;
 use format::File;
-use format::Refusal;
+use limits::Event;
+use limits::Refusal;
 ghost use mathlib.Core.Path.{_≡_};
 ghost use Prim.Native.Nat.{_≤_};
 ghost use lib.ListN.{length};

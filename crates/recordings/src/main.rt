@@ -2,9 +2,9 @@
 // A line that begins with '=' is a title, an empty line ends a recording, and every other line has some of its bytes (text.rt).
 mod text;
 
-use format::EventNumber;
-use format::Refusal;
 use libc::STDOUT_FILENO;
+use limits::EventNumber;
+use limits::Refusal;
 use questions::Judgement;
 use questions::Observed;
 ghost use mathlib.Core.Path.{_≡_};

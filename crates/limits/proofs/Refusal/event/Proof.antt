@@ -1,7 +1,7 @@
-use Rattle.format.proofs.ReadLaws.{kind-at, thread-at, object-at, held-at, holder-at}
+use Rattle.limits.proofs.LimitLaws.{kind-at, thread-at, object-at, held-at, holder-at}
 use borrow.Author.Needs.{needs}
-use Rattle.format.proofs.Refusal.event.Statement.{statement}
-use Rattle.format.proofs.Refusal.event.Tie as tie
+use Rattle.limits.proofs.Refusal.event.Statement.{statement}
+use Rattle.limits.proofs.Refusal.event.Tie as tie
 
 pub event-spec : {M : Type 1} → statement M
 event-spec =

@@ -1,9 +1,9 @@
 -- The refusals: each has the paper's number, and some have an event number.
 use Prim.Native.Nat.{ℕ}
-use Rattle.format.specs.declared.Refusal.{Refusal}
-use Rattle.format.specs.declared.Refusal.the-variants.{FileSize, Mark, EventCount, Distance, Kind, Thread, Object, LockHeld, NotHolder, ListShort, NotConflicting, AreaShort}
-use Rattle.format.specs.declared.EventNumber.{EventNumber}
-use Rattle.format.specs.declared.EventNumber.the-variants.{Absent, At}
+use Rattle.limits.specs.declared.Refusal.{Refusal}
+use Rattle.limits.specs.declared.Refusal.the-variants.{FileSize, Mark, EventCount, Distance, Kind, Thread, Object, LockHeld, NotHolder, ListShort, NotConflicting, AreaShort}
+use Rattle.limits.specs.declared.EventNumber.{EventNumber}
+use Rattle.limits.specs.declared.EventNumber.the-variants.{Absent, At}
 
 -- the paper's number
 abbrev pub numberOf : Refusal → ℕ

@@ -1,0 +1,157 @@
+// What is limited, each kind of thing with its limits, and the refusals.
+ghost use mathlib.Core.Path.{_≡_};
+ghost use lib.Dec.{leb};
+ghost use Rattle.model.specs.Good.{maxEvents, maxThread, maxObject};
+ghost use Rattle.model.specs.Refusals.{isKnownKind};
+ghost use Rattle.limits.specs.Limits.{areBytes};
+ghost use Rattle.limits.specs.Refusals.{numberOf, eventOf};
+
+// A thread, by its number.
+pub struct Thread {
+    pub number: u8,
+}
+
+impl Thread {
+    pub const MAX: u8 = 15;
+
+    pub fn in_limit(self) -> bool
+        ensures { λ r. ⌜ r ≡ leb (self .number) maxThread ⌝ }
+    {
+        self.number <= Thread::MAX
+    }
+}
+
+// An event: its thread, its kind, and its object: the cell of a read or write, or the lock of an acquire or release.
+pub struct Event {
+    pub thread: Thread,
+    pub kind: u8,
+    pub object: usize,
+}
+
+impl Event {
+    pub const BYTES: usize = 4;
+
+    pub const READ: u8 = 1;
+
+    pub const WRITE: u8 = 2;
+
+    pub const ACQUIRE: u8 = 3;
+
+    pub const RELEASE: u8 = 4;
+
+    pub const MAX_OBJECT: usize = 255;
+
+    pub fn kind_known(self) -> bool
+        ensures { λ r. ⌜ r ≡ isKnownKind (self .kind) ⌝ }
+    {
+        if self.kind < Event::READ {
+            return false;
+        }
+        self.kind <= Event::RELEASE
+    }
+
+    pub fn object_in_limit(self) -> bool
+        ensures { λ r. ⌜ r ≡ leb (self .object) maxObject ⌝ }
+    {
+        self.object <= Event::MAX_OBJECT
+    }
+}
+
+// Where the events of a recording stand in its file, and how many they are.
+pub struct Trace {
+    pub start: usize,
+    pub events: usize,
+}
+
+impl Trace {
+    pub const MAX_EVENTS: usize = 512;
+
+    pub const MAX_BYTES: usize = 4096;
+
+    pub const TRAILER_BYTES: usize = 8;
+
+    pub const MARK_FIRST: u8 = 0x50;
+
+    pub const MARK_SECOND: u8 = 0x4C;
+
+    // May a file have so many bytes?
+    pub fn bytes_in_limit(n: usize) -> bool
+        ensures { λ r. ⌜ r ≡ areBytes n ⌝ }
+    {
+        if n < Trace::TRAILER_BYTES {
+            return false;
+        }
+        n <= Trace::MAX_BYTES
+    }
+
+    // May a recording have so many events?
+    pub fn events_in_limit(n: usize) -> bool
+        ensures { λ r. ⌜ r ≡ leb n maxEvents ⌝ }
+    {
+        n <= Trace::MAX_EVENTS
+    }
+}
+
+// Why a file or a question is refused. `numberOf` gives each case its number in the paper.
+pub enum Refusal {
+    FileSize,
+    Mark,
+    EventCount,
+    Distance,
+    Kind(u16),
+    Thread(u16),
+    Object(u16),
+    LockHeld(u16),
+    NotHolder(u16),
+    ListShort,
+    NotConflicting,
+    AreaShort,
+}
+
+// The event number that goes with a refusal, where one does.
+pub enum EventNumber {
+    Absent,
+    At(u16),
+}
+
+impl Refusal {
+    // The number of a refusal in the paper.
+    pub fn number(self) -> u8
+        ensures { λ r. ⌜ r ≡ numberOf self ⌝ }
+    {
+        match self {
+            Refusal::FileSize => 1,
+            Refusal::Mark => 2,
+            Refusal::EventCount => 3,
+            Refusal::Distance => 4,
+            Refusal::Kind(_) => 5,
+            Refusal::Thread(_) => 6,
+            Refusal::Object(_) => 7,
+            Refusal::LockHeld(_) => 8,
+            Refusal::NotHolder(_) => 9,
+            Refusal::ListShort => 10,
+            Refusal::NotConflicting => 11,
+            Refusal::AreaShort => 12,
+        }
+    }
+
+    // The event that a refusal speaks of.
+    pub fn event(self) -> EventNumber
+        ensures { λ r. ⌜ r ≡ eventOf self ⌝ }
+    {
+        match self {
+            Refusal::Kind(k) => EventNumber::At(k),
+            Refusal::Thread(k) => EventNumber::At(k),
+            Refusal::Object(k) => EventNumber::At(k),
+            Refusal::LockHeld(k) => EventNumber::At(k),
+            Refusal::NotHolder(k) => EventNumber::At(k),
+            Refusal::FileSize => EventNumber::Absent,
+            Refusal::Mark => EventNumber::Absent,
+            Refusal::EventCount => EventNumber::Absent,
+            Refusal::Distance => EventNumber::Absent,
+            Refusal::ListShort => EventNumber::Absent,
+            Refusal::NotConflicting => EventNumber::Absent,
+            Refusal::AreaShort => EventNumber::Absent,
+        }
+    }
+}
