@@ -45,14 +45,17 @@ trailer s = drop (length s - trailerBytes) s
 
 -- ---- what refusals 1 to 4 ask
 
+-- refusal 1: 8 to 4,096 bytes
 pub record Sized (s : List ℕ) : Type 0 where
   pub least : trailerBytes ≤ length s
   pub most : length s ≤ maxBytes
 
+-- refusal 2: the mark
 pub record Marked (s : List ℕ) : Type 0 where
   pub first : byte s (length s - 2) ≡ markFirst
   pub second : byte s (length s - 1) ≡ markSecond
 
+-- refusal 4: the distance is that of the first event, and not beyond the file
 pub record Pointed (z : ℕ) (s : List ℕ) : Type 0 where
   pub back : distance s ≡ trailerBytes + z * count s
   pub within : distance s ≤ length s
@@ -71,7 +74,7 @@ pub data LayoutRefusal (z : ℕ) (s : List ℕ) : Refusal → Type 0 where
   too-many : Sized s → Marked s → ¬ (count s ≤ maxEvents) → LayoutRefusal z s EventCount
   bad-distance : Sized s → Marked s → count s ≤ maxEvents → ¬ Pointed z s → LayoutRefusal z s Distance
 
--- what a file with the layout is made of
+-- what a file with the layout is made of, and where each event stands in it
 pub record Parts (z : ℕ) (s : List ℕ) : Type 0 where
   pub whole : preamble z s ++ (eventPart z s ++ trailer s) ≡ s
   pub before-events : length (preamble z s) ≡ start z s

@@ -12,6 +12,7 @@ pub struct Thread {
 }
 
 impl Thread {
+    // The highest number.
     pub const MAX: u8 = 15;
 
     pub fn in_limit(self) -> bool
@@ -29,8 +30,13 @@ pub struct Event {
 }
 
 impl Event {
+    // An event's bytes in a file.
     pub const BYTES: usize = 4;
 
+    // The highest number of a cell or lock.
+    pub const MAX_OBJECT: usize = 255;
+
+    // The kinds, from the lowest to the highest.
     pub const READ: u8 = 1;
 
     pub const WRITE: u8 = 2;
@@ -38,8 +44,6 @@ impl Event {
     pub const ACQUIRE: u8 = 3;
 
     pub const RELEASE: u8 = 4;
-
-    pub const MAX_OBJECT: usize = 255;
 
     pub fn kind_known(self) -> bool
         ensures { λ r. ⌜ r ≡ isKnownKind (self .kind) ⌝ }
@@ -66,10 +70,12 @@ pub struct Trace {
 impl Trace {
     pub const MAX_EVENTS: usize = 512;
 
+    // The most bytes of a file. It has a trailer, so that is the least.
     pub const MAX_BYTES: usize = 4096;
 
     pub const TRAILER_BYTES: usize = 8;
 
+    // The last two bytes of a file.
     pub const MARK_FIRST: u8 = 0x50;
 
     pub const MARK_SECOND: u8 = 0x4C;
@@ -92,7 +98,7 @@ impl Trace {
     }
 }
 
-// Why a file or a question is refused. `numberOf` gives each case its number in the paper.
+// Why a file or a question is refused; a case has the number of the event that it speaks of. `numberOf` gives each its number in the paper.
 pub enum Refusal {
     FileSize,
     Mark,
@@ -115,7 +121,7 @@ pub enum EventNumber {
 }
 
 impl Refusal {
-    // The number of a refusal in the paper.
+    // The paper's number.
     pub fn number(self) -> u8
         ensures { λ r. ⌜ r ≡ numberOf self ⌝ }
     {

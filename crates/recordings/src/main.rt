@@ -7,7 +7,6 @@ use limits::EventNumber;
 use limits::Refusal;
 use questions::Judgement;
 use questions::Observed;
-ghost use mathlib.Core.Path.{_≡_};
 ghost use Prim.Native.Nat.{_≤_};
 ghost use lib.ListN.{length};
 
