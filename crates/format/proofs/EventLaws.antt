@@ -10,12 +10,12 @@ use Rattle.limits.specs.Limits.{eventBytes}
 use Rattle.format.specs.Bytes.{byte, number16, eventAt, eventsFrom, traceOf, trace, plain}
 use Rattle.limits.specs.declared.Event.{Event as Decoded}
 
-pub length-events : (z : ℕ) (s : List ℕ) (p n : ℕ) → length (eventsFrom z s p n) ≡ n
+length-events : (z : ℕ) (s : List ℕ) (p n : ℕ) → length (eventsFrom z s p n) ≡ n
 unfolding eventsFrom
 length-events z s p zero = refl
 length-events z s p (suc n) = ap suc (length-events z s (p + z) n)
 
-pub event-at : (z : ℕ) (s : List ℕ) (p n j : ℕ) → j < n → getD (eventsFrom z s p n) j noEvent ≡ eventAt s (p + z * j)
+event-at : (z : ℕ) (s : List ℕ) (p n j : ℕ) → j < n → getD (eventsFrom z s p n) j noEvent ≡ eventAt s (p + z * j)
 unfolding eventsFrom
 event-at z s p zero j h = absurd (omega arith)
 event-at z s p (suc n) zero h = ap (eventAt s) (let e = mul-zero z in omega arith)

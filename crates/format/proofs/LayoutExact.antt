@@ -10,18 +10,18 @@ use lib.Dec.{eqb, leb}
 use borrow.Author.Tests.{eqb-true, eq-eqb, leb-true, le-leb}
 use Rattle.model.specs.Good.{maxEvents}
 use Rattle.model.proofs.Tests.{by-cases, both, true-both, false-test, test-false}
-use Rattle.limits.specs.Limits.{trailerBytes, maxBytes, areBytes, markFirst, markSecond}
+use Rattle.limits.specs.Limits.{trailerBytes, maxBytes, isFileSize, markFirst, markSecond}
 use Rattle.format.specs.Bytes.{byte}
 use Rattle.format.specs.Layout.{distance, count, Sized, Marked, Pointed, LayoutAnswer, bad-size, wrong-mark, too-many, bad-distance, isMarked, isPointed, layoutRefusal}
 use Rattle.limits.specs.declared.Refusal.{Refusal}
 
 module _ (s : List ℕ) where
-  pub sized-true : areBytes (length s) ≡ true → Sized s
+  pub sized-true : isFileSize (length s) ≡ true → Sized s
   sized-true e =
       let p = both (leb trailerBytes (length s)) (leb (length s) maxBytes) e in
       record { least = leb-true trailerBytes (length s) (p .0); most = leb-true (length s) maxBytes (p .1) }
 
-  pub true-sized : Sized s → areBytes (length s) ≡ true
+  pub true-sized : Sized s → isFileSize (length s) ≡ true
   true-sized p = true-both (le-leb trailerBytes (length s) (p .least)) (le-leb (length s) maxBytes (p .most))
 
   pub marked-true : isMarked s ≡ true → Marked s
@@ -48,7 +48,7 @@ module _ (s : List ℕ) where
     answer : LayoutAnswer z s (layoutRefusal z s)
     unfolding layoutRefusal
     answer =
-        by-cases (areBytes (length s))
+        by-cases (isFileSize (length s))
         (λ a.
         by-cases (isMarked s)
         (λ b.

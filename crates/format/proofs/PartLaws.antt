@@ -9,36 +9,36 @@ use lib.ListN.{length, take, drop, take-append-drop, length-take, length-drop}
 use lib.Seq.{drop-drop, getD-take, getD-drop, length-take-le}
 use Rattle.model.specs.Trace.{at, Valid}
 use Rattle.limits.specs.Limits.{eventBytes, trailerBytes}
-use Rattle.format.specs.Bytes.{byte, eventAt}
-use Rattle.format.specs.Layout.{count, start, preamble, eventPart, events, trailer, Layout, Parts, placeOf, fileOf, Placed}
-use Rattle.limits.specs.declared.Trace.{Trace as Place}
+use Rattle.format.specs.Bytes.{byte, eventAt, trace}
+use Rattle.format.specs.Layout.{count, start, preamble, eventPart, events, trailer, Layout, Parts, spanOf, fileOf, Placed}
+use Rattle.limits.specs.declared.Trace.{Trace as Span}
 use Rattle.limits.specs.declared.Refusal.{Refusal}
 use Rattle.format.specs.declared.File.the-variants.{Refused, Good}
 use Rattle.format.proofs.EventLaws.{trace-length, trace-at}
 
 module _ (z : ℕ) (s : List ℕ) (l : Layout z s) where
   -- the three parts fill the file
-  pub filled : start z s + z * count s + trailerBytes ≡ length s
+  pub filled : start s + z * count s + trailerBytes ≡ length s
   unfolding start
   filled = let b = l .pointed .back in let w = l .pointed .within in omega arith
 
-  pub part-length : length (eventPart z s) ≡ z * count s
+  part-length : length (eventPart z s) ≡ z * count s
   unfolding eventPart
   part-length = let f = filled in simp (length-take, length-drop) (omega arith)
 
-  pub preamble-length : length (preamble z s) ≡ start z s
+  pub preamble-length : length (preamble s) ≡ start s
   unfolding preamble
-  preamble-length = let f = filled in length-take-le (start z s) s (omega arith)
+  preamble-length = let f = filled in length-take-le (start s) s (omega arith)
 
-  joined : preamble z s ++ (eventPart z s ++ trailer s) ≡ s
+  joined : preamble s ++ (eventPart z s ++ trailer s) ≡ s
   unfolding preamble eventPart trailer
   joined =
       let f = filled in
-      let e : start z s + z * count s ≡ length s - trailerBytes = omega arith in
-      let d : drop (length s - trailerBytes) s ≡ drop (z * count s) (drop (start z s) s) = sym (drop-drop (z * count s) (start z s) s ∙ ap (λ (n : ℕ). drop n s) e) in
-      ap (λ (r : List ℕ). take (start z s) s ++ (take (z * count s) (drop (start z s) s) ++ r)) d
-      ∙ ap (λ (r : List ℕ). take (start z s) s ++ r) (take-append-drop (z * count s) (drop (start z s) s))
-      ∙ take-append-drop (start z s) s
+      let e : start s + z * count s ≡ length s - trailerBytes = omega arith in
+      let d : drop (length s - trailerBytes) s ≡ drop (z * count s) (drop (start s) s) = sym (drop-drop (z * count s) (start s) s ∙ ap (λ (n : ℕ). drop n s) e) in
+      ap (λ (r : List ℕ). take (start s) s ++ (take (z * count s) (drop (start s) s) ++ r)) d
+      ∙ ap (λ (r : List ℕ). take (start s) s ++ r) (take-append-drop (z * count s) (drop (start s) s))
+      ∙ take-append-drop (start s) s
 
   trailer-length : length (trailer s) ≡ trailerBytes
   unfolding trailer
@@ -49,19 +49,19 @@ module _ (z : ℕ) (s : List ℕ) (l : Layout z s) where
     unfolding events
     number-of-events = trace-length z (eventPart z s) ∙ ap (λ (n : ℕ). n / z) part-length ∙ mul-div-right (count s) (omega arith)
 
-    byte-of : (p : ℕ) → p < z * count s → byte (eventPart z s) p ≡ byte s (start z s + p)
+    byte-of : (p : ℕ) → p < z * count s → byte (eventPart z s) p ≡ byte s (start s + p)
     unfolding eventPart
     byte-of p q = rw (getD-take, getD-drop)
 
-    event-of : (p : ℕ) → p + 4 ≤ z * count s → eventAt (eventPart z s) p ≡ eventAt s (start z s + p)
+    event-of : (p : ℕ) → p + 4 ≤ z * count s → eventAt (eventPart z s) p ≡ eventAt s (start s + p)
     event-of p q =
-        let a : byte (eventPart z s) p ≡ byte s (start z s + p) = byte-of p (omega arith) in
-        let b : byte (eventPart z s) (p + 1) ≡ byte s (start z s + p + 1) = byte-of (p + 1) (omega arith) ∙ ap (byte s) (omega arith) in
-        let c : byte (eventPart z s) (p + 2) ≡ byte s (start z s + p + 2) = byte-of (p + 2) (omega arith) ∙ ap (byte s) (omega arith) in
-        let d : byte (eventPart z s) (p + 2 + 1) ≡ byte s (start z s + p + 2 + 1) = byte-of (p + 2 + 1) (omega arith) ∙ ap (byte s) (omega arith) in
+        let a : byte (eventPart z s) p ≡ byte s (start s + p) = byte-of p (omega arith) in
+        let b : byte (eventPart z s) (p + 1) ≡ byte s (start s + p + 1) = byte-of (p + 1) (omega arith) ∙ ap (byte s) (omega arith) in
+        let c : byte (eventPart z s) (p + 2) ≡ byte s (start s + p + 2) = byte-of (p + 2) (omega arith) ∙ ap (byte s) (omega arith) in
+        let d : byte (eventPart z s) (p + 2 + 1) ≡ byte s (start s + p + 2 + 1) = byte-of (p + 2 + 1) (omega arith) ∙ ap (byte s) (omega arith) in
         rw (a, b, c, d)
 
-    each-event : (k : ℕ) → Valid (events z s) k → at (events z s) k ≡ eventAt s (start z s + z * (k - 1))
+    each-event : (k : ℕ) → Valid (events z s) k → at (events z s) k ≡ eventAt s (start s + z * (k - 1))
     unfolding events
     each-event k v =
         let n = number-of-events in
@@ -77,7 +77,7 @@ module _ (z : ℕ) (s : List ℕ) (l : Layout z s) where
     layout-parts =
         record {
           whole = joined;
-          before-events = preamble-length;
+          of-preamble = preamble-length;
           of-events = part-length;
           of-trailer = trailer-length;
           number = number-of-events;
@@ -86,31 +86,36 @@ module _ (z : ℕ) (s : List ℕ) (l : Layout z s) where
 
 -- ---- the parts that the code lends
 
-module _ (s : List ℕ) (t : Place) (p : Placed s t) where
+module _ (s : List ℕ) (t : Span) (p : Placed s t) where
   pub place-low : t .start ≤ length s - trailerBytes
-  place-low = let f = filled eventBytes s (p .layout) in let e = ap (λ (u : Place). u .start) (p .place) in omega arith
+  place-low = let f = filled eventBytes s (p .layout) in let e = ap (λ (u : Span). u .start) (p .span) in omega arith
 
   pub event-part : take (length s - trailerBytes - t .start) (drop (t .start) s) ≡ eventPart eventBytes s
   unfolding eventPart
   event-part =
       let f = filled eventBytes s (p .layout) in
-      let e : t .start ≡ start eventBytes s = ap (λ (u : Place). u .start) (p .place) in
-      let m : length s - trailerBytes - start eventBytes s ≡ eventBytes * count s = omega arith in
+      let e : t .start ≡ start s = ap (λ (u : Span). u .start) (p .span) in
+      let m : length s - trailerBytes - start s ≡ eventBytes * count s = omega arith in
       rw (e, m)
+
+-- the trace of those bytes is that of the file
+pub part-trace : (s ev : List ℕ) → ev ≡ eventPart eventBytes s → trace ev ≡ events eventBytes s
+unfolding events
+part-trace s ev e = ap trace e
 
 -- ---- what a reading says of the refusal
 
-module _ (z : ℕ) (s : List ℕ) (o : Option Refusal) where
-  pub read-good : (t : Place) → fileOf z s o ≡ Good t → (o ≡ none) × (t ≡ placeOf z s)
+module _ (s : List ℕ) (o : Option Refusal) where
+  pub read-good : (t : Span) → fileOf s o ≡ Good t → (o ≡ none) × (t ≡ spanOf s)
   read-good t e = go o refl e
     where
-      go : (p : Option Refusal) → o ≡ p → fileOf z s p ≡ Good t → (o ≡ none) × (t ≡ placeOf z s)
+      go : (p : Option Refusal) → o ≡ p → fileOf s p ≡ Good t → (o ≡ none) × (t ≡ spanOf s)
       go none q f = (q, cc)
       go (some r) q f = let x : _≡_ {A = ℕ} 0 1 = cc in absurd (omega arith)
 
-  pub read-refused : (r : Refusal) → fileOf z s o ≡ Refused r → o ≡ some r
+  pub read-refused : (r : Refusal) → fileOf s o ≡ Refused r → o ≡ some r
   read-refused r e = go o refl e
     where
-      go : (p : Option Refusal) → o ≡ p → fileOf z s p ≡ Refused r → o ≡ some r
+      go : (p : Option Refusal) → o ≡ p → fileOf s p ≡ Refused r → o ≡ some r
       go none q f = let x : _≡_ {A = ℕ} 0 1 = cc in absurd (omega arith)
       go (some q) p f = p ∙ cc

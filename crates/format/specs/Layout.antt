@@ -8,11 +8,11 @@ use lib.ListN.{length, take, drop}
 use lib.Dec.{eqb, leb}
 use Rattle.model.specs.Trace.{Trace, Valid, at}
 use Rattle.model.specs.Good.{maxEvents}
-use Rattle.limits.specs.Limits.{eventBytes, trailerBytes, maxBytes, areBytes, markFirst, markSecond}
+use Rattle.limits.specs.Limits.{eventBytes, trailerBytes, maxBytes, isFileSize, markFirst, markSecond}
 use Rattle.format.specs.Bytes.{byte, number16, number32, eventAt, traceOf}
 use Rattle.limits.specs.declared.Refusal.{Refusal}
 use Rattle.limits.specs.declared.Refusal.the-variants.{FileSize, Mark, EventCount, Distance}
-use Rattle.limits.specs.declared.Trace.{Trace as Place}
+use Rattle.limits.specs.declared.Trace.{Trace as Span}
 use Rattle.format.specs.declared.File.{File}
 use Rattle.format.specs.declared.File.the-variants.{Refused, Good}
 
@@ -26,17 +26,18 @@ count s = number16 s (length s - 4)
 
 -- ---- the parts of a file
 
--- where the first event begins: as far from the end as the events and the trailer are long
-unfoldable pub start : ℕ → List ℕ → ℕ
-start z s = length s - (trailerBytes + z * count s)
+-- where the first event begins: the distance back from the end
+unfoldable pub start : List ℕ → ℕ
+start s = length s - distance s
 
-unfoldable pub preamble : ℕ → List ℕ → List ℕ
-preamble z s = take (start z s) s
+-- all bytes before that point
+unfoldable pub preamble : List ℕ → List ℕ
+preamble s = take (start s) s
 
 unfoldable pub eventPart : ℕ → List ℕ → List ℕ
-eventPart z s = take (z * count s) (drop (start z s) s)
+eventPart z s = take (z * count s) (drop (start s) s)
 
--- the events of a file
+-- the events of a file, of z bytes each
 unfoldable pub events : ℕ → List ℕ → Trace
 events z s = traceOf z (eventPart z s)
 
@@ -76,12 +77,12 @@ pub data LayoutRefusal (z : ℕ) (s : List ℕ) : Refusal → Type 0 where
 
 -- what a file with the layout is made of, and where each event stands in it
 pub record Parts (z : ℕ) (s : List ℕ) : Type 0 where
-  pub whole : preamble z s ++ (eventPart z s ++ trailer s) ≡ s
-  pub before-events : length (preamble z s) ≡ start z s
+  pub whole : preamble s ++ (eventPart z s ++ trailer s) ≡ s
+  pub of-preamble : length (preamble s) ≡ start s
   pub of-events : length (eventPart z s) ≡ z * count s
   pub of-trailer : length (trailer s) ≡ trailerBytes
   pub number : length (events z s) ≡ count s
-  pub each : (k : ℕ) → Valid (events z s) k → at (events z s) k ≡ eventAt s (start z s + z * (k - 1))
+  pub each : (k : ℕ) → Valid (events z s) k → at (events z s) k ≡ eventAt s (start s + z * (k - 1))
 
 -- what the first refusal, or that there is none, means
 abbrev pub LayoutAnswer : ℕ → List ℕ → Option Refusal → Type 0
@@ -98,21 +99,21 @@ isPointed z s = eqb (distance s) (trailerBytes + z * count s) && leb (distance s
 
 unfoldable pub layoutRefusal : ℕ → List ℕ → Option Refusal
 layoutRefusal z s =
-    cond (not (areBytes (length s))) (some FileSize)
+    cond (not (isFileSize (length s))) (some FileSize)
     (cond (not (isMarked s)) (some Mark)
     (cond (not (leb (count s) maxEvents)) (some EventCount)
     (cond (not (isPointed z s)) (some Distance) none)))
 
 -- where a file's events stand, and how many they are
-abbrev pub placeOf : ℕ → List ℕ → Place
-placeOf z s = record { start = start z s; events = count s }
+abbrev pub spanOf : List ℕ → Span
+spanOf s = record { start = start s; events = count s }
 
 -- what reading a file gives, by its refusal
-abbrev pub fileOf : ℕ → List ℕ → Option Refusal → File
-fileOf z s none = Good (placeOf z s)
-fileOf z s (some r) = Refused r
+abbrev pub fileOf : List ℕ → Option Refusal → File
+fileOf s none = Good (spanOf s)
+fileOf s (some r) = Refused r
 
--- t says where the events of a file with the layout stand
-pub record Placed (s : List ℕ) (t : Place) : Type 0 where
+-- a file with the layout, and t says where its events stand
+pub record Placed (s : List ℕ) (t : Span) : Type 0 where
   pub layout : Layout eventBytes s
-  pub place : t ≡ placeOf eventBytes s
+  pub span : t ≡ spanOf s

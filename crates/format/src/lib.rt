@@ -1,4 +1,4 @@
-// The format of a recording's file: the layout, and events out of bytes. Nothing above this crate speaks of bytes.
+// The format of a recording's file: the layout, and events out of bytes. No other crate reads an event's bytes or the trailer's.
 use limits::Event;
 use limits::Refusal;
 use limits::Thread;
@@ -54,7 +54,7 @@ fn marked(file: &[u8]) -> bool
 // Refusals 2 to 4, in their order.
 fn read_trailer(file: &[u8]) -> File
     requires { ⌜ Sized (now file) ⌝ }
-    ensures { λ r. ⌜ r ≡ fileOf eventBytes (now (file .entry)) (layoutRefusal eventBytes (now (file .entry))) ⌝ }
+    ensures { λ r. ⌜ r ≡ fileOf (now (file .entry)) (layoutRefusal eventBytes (now (file .entry))) ⌝ }
 {
     if !marked(file) {
         return File::Refused(Refusal::Mark);
@@ -79,7 +79,7 @@ fn read_trailer(file: &[u8]) -> File
 
 // Refusals 1 to 4, in their order.
 pub fn read(file: &[u8]) -> File
-    ensures { λ r. ⌜ r ≡ fileOf eventBytes (now (file .entry)) (layoutRefusal eventBytes (now (file .entry))) ⌝ }
+    ensures { λ r. ⌜ r ≡ fileOf (now (file .entry)) (layoutRefusal eventBytes (now (file .entry))) ⌝ }
 {
     if !Trace::bytes_in_limit(file.len()) {
         return File::Refused(Refusal::FileSize);

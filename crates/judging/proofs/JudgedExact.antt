@@ -7,7 +7,7 @@ use mathlib.Core.Option.{Option, none, some}
 use mathlib.Core.List.{List}
 use lib.Dec.{eqb}
 use Rattle.model.specs.Trace.{Trace}
-use Rattle.model.specs.Refusals.{Refusal as EventRefused, EventRefusal, unknown-kind, thread-over, object-over, lock-held, not-holder, refusal}
+use Rattle.model.specs.Refusals.{RefusedEvent, EventRefusal, unknown-kind, thread-over, object-over, lock-held, not-holder, refusal}
 use Rattle.model.proofs.Tests.{by-cases}
 use Rattle.model.proofs.RefusalsExact.{refusal-exactly, good-exactly}
 use Rattle.limits.specs.Refusals.{numberOf, eventOf}
@@ -17,20 +17,20 @@ use Rattle.format.proofs.PartLaws.{number-of-events}
 use Rattle.limits.specs.declared.Refusal.{Refusal}
 use Rattle.limits.specs.declared.Refusal.the-variants.{FileSize, Mark, EventCount, Distance, Kind, Thread, Object, LockHeld, NotHolder, ListShort, NotConflicting, AreaShort}
 use Rattle.limits.specs.declared.EventNumber.the-variants.{At}
-use Rattle.judging.specs.Judged.{by-layout, by-event, FileAnswer, atEvent, named, orElse, fileRefusal}
+use Rattle.judging.specs.Judged.{by-layout, by-event, FileAnswer, refusalAt, named, orElse, fileRefusal}
 
 -- ---- the refusal of an event has the paper's number and the event's
 
-number-right : (t : Trace) (k n : ℕ) → EventRefusal t k n → numberOf (atEvent n k) ≡ n
-unfolding atEvent
+number-right : (t : Trace) (k n : ℕ) → EventRefusal t k n → numberOf (refusalAt n k) ≡ n
+unfolding refusalAt
 number-right t k n (unknown-kind e x) = rw e
 number-right t k n (thread-over e p x) = rw e
 number-right t k n (object-over e p q x) = rw e
 number-right t k n (lock-held e l a x) = rw e
 number-right t k n (not-holder e l a x) = rw e
 
-event-right : (n k : ℕ) → eventOf (atEvent n k) ≡ At k
-unfolding atEvent
+event-right : (n k : ℕ) → eventOf (refusalAt n k) ≡ At k
+unfolding refusalAt
 event-right n k =
     by-cases (eqb n 5) (λ a. rw a) (λ a.
     by-cases (eqb n 6) (λ b. rw (a, b)) (λ b.
@@ -38,8 +38,8 @@ event-right n k =
     by-cases (eqb n 8) (λ d. rw (a, b, c, d)) (λ d. rw (a, b, c, d)))))
 
 -- a refusal with that number and that event is the one
-only-right : (r : Refusal) (n k : ℕ) → numberOf r ≡ n → eventOf r ≡ At k → atEvent n k ≡ r
-unfolding atEvent
+only-right : (r : Refusal) (n k : ℕ) → numberOf r ≡ n → eventOf r ≡ At k → refusalAt n k ≡ r
+unfolding refusalAt
 only-right FileSize n k e f = let z : _≡_ {A = ℕ} 0 1 = cc in absurd (omega arith)
 only-right Mark n k e f = let z : _≡_ {A = ℕ} 0 1 = cc in absurd (omega arith)
 only-right EventCount n k e f = let z : _≡_ {A = ℕ} 0 1 = cc in absurd (omega arith)
@@ -56,7 +56,7 @@ only-right AreaShort n k e f = let z : _≡_ {A = ℕ} 0 1 = cc in absurd (omega
 -- ---- files
 
 module _ (z : ℕ) (h : 4 ≤ z) (s : List ℕ) where
-  judged : (o : Option Refusal) → layoutRefusal z s ≡ o → (p : Option EventRefused) → refusal (events z s) ≡ p → FileAnswer z s (orElse o (named p))
+  judged : (o : Option Refusal) → layoutRefusal z s ≡ o → (p : Option RefusedEvent) → refusal (events z s) ≡ p → FileAnswer z s (orElse o (named p))
   judged (some r) e p f = by-layout (layout-exactly s z (some r) .0 e)
   judged none e none f =
       let l : Layout z s = layout-exactly s z none .0 e in

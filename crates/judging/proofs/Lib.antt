@@ -1,7 +1,7 @@
 -- The first refusal of a file
 pub mod JudgedExact
 -- The ways through the code
-pub mod TurnLaws
+pub mod EffectLaws
 pub mod WalkLaws
 pub mod ThreadLaws
 pub mod FileLaws

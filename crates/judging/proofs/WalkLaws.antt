@@ -5,6 +5,7 @@ use native.Mathlib.Numerals.{add-one}
 use mathlib.Core.Path.{_≡_, refl, sym, _∙_, ap}
 use mathlib.Core.Logic.{_≢_}
 use mathlib.Core.Bool.{true, false, cond, Bool}
+use mathlib.Core.Option.{none, some}
 use mathlib.Core.List.{List, _∷_}
 use lib.ListN.{length, set, length-set, getD-replicate, length-replicate}
 use lib.Seq.{getD-set-same, getD-set-other}
@@ -17,12 +18,11 @@ use Rattle.model.specs.Refusals.{eventRefusal, refusal}
 use Rattle.model.proofs.Tests.{by-cases, true-does, false-does, does-true, false-test}
 use Rattle.model.proofs.RefusalsExact.{refused-first, refused-none, clean-good}
 use Rattle.limits.specs.declared.Refusal.{Refusal}
-use Rattle.judging.specs.Judged.{atEvent, named}
-use Rattle.judging.specs.Walk.{noLocks, LockTable, Ready, locking, orTurn, turnOf, outcomeOf}
+use Rattle.judging.specs.Judged.{refusalAt, named}
+use Rattle.judging.specs.Walk.{noLocks, LockTable, Ready, locking, refusedOr, effectOf}
 use Rattle.judging.specs.declared.Locks.{Locks}
-use Rattle.judging.specs.declared.Turn.{Turn}
-use Rattle.judging.specs.declared.Turn.the-variants.{Pass, Hold, Stop}
-use Rattle.judging.specs.declared.Outcome.the-variants.{Good, Refused}
+use Rattle.judging.specs.declared.Effect.{Effect}
+use Rattle.judging.specs.declared.Effect.the-variants.{Nothing, Holder, Refused}
 
 -- the events before k are good, and the table is theirs
 pub record Judging (t : Trace) (n k : ℕ) (locks : Locks) : Type 0 where
@@ -40,34 +40,34 @@ module _ (t : Trace) (k : ℕ) where
   quiet : (c x : ℕ) → x ≢ objectOf t k → does t c x k ≡ false
   quiet c x ne = false-test (does-true t c x k) (λ p. ne (sym (p .1)))
 
-  -- the turn, by the refusal of the event
-  stopped : (n : ℕ) (u : Turn) (r : Refusal) → orTurn n k (locking t k) ≡ u → u ≡ Stop r → (n ≢ 0) × (atEvent n k ≡ r)
+  -- the effect, by the refusal of the event
+  stopped : (n : ℕ) (u : Effect) (r : Refusal) → refusedOr n k (locking t k) ≡ u → u ≡ Refused r → (n ≢ 0) × (refusalAt n k ≡ r)
   stopped zero u r e f = absurd (never (eqb (kindOf t k) acquire) (eqb (kindOf t k) release) (e ∙ f))
     where
-      never : (a b : Bool) → cond a (Hold (suc (threadOf t k))) (cond b (Hold 0) Pass) ≡ Stop r → ⊥
+      never : (a b : Bool) → cond a (Holder (suc (threadOf t k))) (cond b (Holder 0) Nothing) ≡ Refused r → ⊥
       never true b e = let z : _≡_ {A = ℕ} 0 1 = cc in omega arith
       never false true e = let z : _≡_ {A = ℕ} 0 1 = cc in omega arith
       never false false e = let z : _≡_ {A = ℕ} 0 1 = cc in omega arith
   stopped (suc n) u r e f = ((λ z. omega arith), cc)
 
-  passed : turnOf t k ≡ Pass → (eventRefusal t k ≡ 0) × (locking t k ≡ Pass)
-  unfolding turnOf
+  passed : effectOf t k ≡ Nothing → (eventRefusal t k ≡ 0) × (locking t k ≡ Nothing)
+  unfolding effectOf
   passed e = go (eventRefusal t k) refl e
     where
-      go : (n : ℕ) → eventRefusal t k ≡ n → orTurn n k (locking t k) ≡ Pass → (eventRefusal t k ≡ 0) × (locking t k ≡ Pass)
+      go : (n : ℕ) → eventRefusal t k ≡ n → refusedOr n k (locking t k) ≡ Nothing → (eventRefusal t k ≡ 0) × (locking t k ≡ Nothing)
       go zero q f = (q, f)
       go (suc n) q f = let z : _≡_ {A = ℕ} 0 1 = cc in absurd (omega arith)
 
-  held : (v : ℕ) → turnOf t k ≡ Hold v → (eventRefusal t k ≡ 0) × (locking t k ≡ Hold v)
-  unfolding turnOf
+  held : (v : ℕ) → effectOf t k ≡ Holder v → (eventRefusal t k ≡ 0) × (locking t k ≡ Holder v)
+  unfolding effectOf
   held v e = go (eventRefusal t k) refl e
     where
-      go : (n : ℕ) → eventRefusal t k ≡ n → orTurn n k (locking t k) ≡ Hold v → (eventRefusal t k ≡ 0) × (locking t k ≡ Hold v)
+      go : (n : ℕ) → eventRefusal t k ≡ n → refusedOr n k (locking t k) ≡ Holder v → (eventRefusal t k ≡ 0) × (locking t k ≡ Holder v)
       go zero q f = (q, f)
       go (suc n) q f = let z : _≡_ {A = ℕ} 0 1 = cc in absurd (omega arith)
 
   -- no lock changes
-  after-pass : locking t k ≡ Pass → (h : List ℕ) (x : ℕ) → holder t x (k ∷ h) ≡ holder t x h
+  after-pass : locking t k ≡ Nothing → (h : List ℕ) (x : ℕ) → holder t x (k ∷ h) ≡ holder t x h
   after-pass e h x =
       by-cases (eqb (kindOf t k) acquire)
       (λ a. let f = rw a at e in let z : _≡_ {A = ℕ} 0 1 = cc in absurd (omega arith))
@@ -77,7 +77,7 @@ module _ (t : Trace) (k : ℕ) where
       (λ b. rw (false-does t acquire x k (eqb-false _ _ a), false-does t release x k (eqb-false _ _ b))))
 
   -- the event's lock has the new holder
-  after-hold : (v : ℕ) → locking t k ≡ Hold v → (h : List ℕ) → holder t (objectOf t k) (k ∷ h) ≡ v
+  after-hold : (v : ℕ) → locking t k ≡ Holder v → (h : List ℕ) → holder t (objectOf t k) (k ∷ h) ≡ v
   after-hold v e h =
       by-cases (eqb (kindOf t k) acquire)
       (λ a. let f = rw a at e in rw (true-does t acquire (objectOf t k) k (eqb-true _ _ a) refl) cc)
@@ -121,8 +121,8 @@ module _ {t : Trace} {n k : ℕ} {locks : Locks} (p : Judging t n k locks) (h : 
   more-clean : eventRefusal t k ≡ 0 → (j : ℕ) → 1 ≤ j → j < k + 1 → eventRefusal t j ≡ 0
   more-clean e j a b = by-cases (eqb j k) (λ q. rw (eqb-true j k q) e) (λ q. let ne = eqb-false j k q in p .clean j a (omega arith))
 
-  module _ (u : Turn) (eu : u ≡ turnOf t k) where
-    pub judging-pass : u ≡ Pass → (l : Locks) → l ≡ locks → Judging t n (k + 1) l
+  module _ (u : Effect) (eu : u ≡ effectOf t k) where
+    pub judging-pass : u ≡ Nothing → (l : Locks) → l ≡ locks → Judging t n (k + 1) l
     judging-pass f l el =
         let w = passed t k (sym eu ∙ f) in
         rw el
@@ -136,11 +136,11 @@ module _ {t : Trace} {n k : ℕ} {locks : Locks} (p : Judging t n k locks) (h : 
           wide = p .wide;
         })
 
-    pub judging-object : (v : ℕ) → u ≡ Hold v → (o : ℕ) → o ≡ objectOf t k → o < maxObject + 1
+    pub judging-object : (v : ℕ) → u ≡ Holder v → (o : ℕ) → o ≡ objectOf t k → o < maxObject + 1
     judging-object v f o eo =
         let w = held t k v (sym eu ∙ f) in let b = clean-good t k (w .0) .limits .object in omega arith
 
-    pub judging-hold : (v : ℕ) → u ≡ Hold v → (o : ℕ) → o ≡ objectOf t k → (l : Locks) → l ≡ record { holder = set (locks .holder) o v } → Judging t n (k + 1) l
+    pub judging-hold : (v : ℕ) → u ≡ Holder v → (o : ℕ) → o ≡ objectOf t k → (l : Locks) → l ≡ record { holder = set (locks .holder) o v } → Judging t n (k + 1) l
     judging-hold v f o eo l el =
         let w = held t k v (sym eu ∙ f) in
         let b = judging-object v f o eo in
@@ -168,11 +168,11 @@ module _ {t : Trace} {n k : ℕ} {locks : Locks} (p : Judging t n k locks) (h : 
           wide = length-set (locks .holder) o v ∙ y;
         })
 
-    pub judging-stop : (r : Refusal) → u ≡ Stop r → Refused r ≡ outcomeOf (named (refusal t))
-    unfolding turnOf
+    pub judging-stop : (r : Refusal) → u ≡ Refused r → named (refusal t) ≡ some r
+    unfolding effectOf
     judging-stop r f =
         let w = stopped t k (eventRefusal t k) u r (sym eu) f in
-        rw (refused-first t k judging-valid (w .0) (p .clean)) (ap Refused (sym (w .1)))
+        rw (refused-first t k judging-valid (w .0) (p .clean)) (ap some (w .1))
 
-pub judging-end : {t : Trace} {n k : ℕ} {locks : Locks} → Judging t n k locks → n < k → Good ≡ outcomeOf (named (refusal t))
+pub judging-end : {t : Trace} {n k : ℕ} {locks : Locks} → Judging t n k locks → n < k → named (refusal t) ≡ none
 judging-end {t} p h = rw (refused-none t (λ j v. let a = v .positive in let b = v .bounded in let s = p .size in p .clean j a (omega arith)))

@@ -6,7 +6,7 @@ use mathlib.Core.Option.{Option, none, some}
 use mathlib.Core.List.{List}
 use lib.Dec.{eqb}
 use Rattle.model.specs.Good.{Good}
-use Rattle.model.specs.Refusals.{Refusal as EventRefused, FirstRefusal, refusal}
+use Rattle.model.specs.Refusals.{RefusedEvent, FirstRefusal, refusal}
 use Rattle.limits.specs.Refusals.{numberOf, eventOf}
 use Rattle.format.specs.Layout.{Layout, LayoutRefusal, layoutRefusal, events}
 use Rattle.limits.specs.declared.Refusal.{Refusal}
@@ -23,7 +23,7 @@ pub record GoodFile (z : ℕ) (s : List ℕ) : Type 0 where
 -- a refused file: by its layout, or else by the first of its events that is refused, with that event's number
 pub data FileRefusal (z : ℕ) (s : List ℕ) (r : Refusal) : Type 0 where
   by-layout : LayoutRefusal z s r → FileRefusal z s r
-  by-event : Layout z s → (x : EventRefused) → FirstRefusal (events z s) x → numberOf r ≡ x .code → eventOf r ≡ At (x .event) → FileRefusal z s r
+  by-event : Layout z s → (x : RefusedEvent) → FirstRefusal (events z s) x → numberOf r ≡ x .code → eventOf r ≡ At (x .event) → FileRefusal z s r
 
 abbrev pub FileAnswer : ℕ → List ℕ → Option Refusal → Type 0
 FileAnswer z s none = GoodFile z s
@@ -31,13 +31,13 @@ FileAnswer z s (some r) = FileRefusal z s r
 
 -- ---- computed
 
--- the refusal of event k with the paper's number n, from 5 to 9
-unfoldable pub atEvent : ℕ → ℕ → Refusal
-atEvent n k = cond (eqb n 5) (Kind k) (cond (eqb n 6) (Thread k) (cond (eqb n 7) (Object k) (cond (eqb n 8) (LockHeld k) (NotHolder k))))
+-- the refusal of event k with the paper's number n; events are refused with 5 to 9 only
+unfoldable pub refusalAt : ℕ → ℕ → Refusal
+refusalAt n k = cond (eqb n 5) (Kind k) (cond (eqb n 6) (Thread k) (cond (eqb n 7) (Object k) (cond (eqb n 8) (LockHeld k) (NotHolder k))))
 
-abbrev pub named : Option EventRefused → Option Refusal
+abbrev pub named : Option RefusedEvent → Option Refusal
 named none = none
-named (some x) = some (atEvent (x .code) (x .event))
+named (some x) = some (refusalAt (x .code) (x .event))
 
 abbrev pub orElse : Option Refusal → Option Refusal → Option Refusal
 orElse none o = o

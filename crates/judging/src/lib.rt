@@ -2,17 +2,16 @@
 use format::File;
 use limits::Event;
 use limits::Refusal;
+use limits::Trace;
 ghost use mathlib.Core.Path.{_≡_};
-ghost use Prim.Native.Nat.{_≤_};
 ghost use lib.ListN.{length};
-ghost use Rattle.model.specs.Good.{maxEvents, Good};
-ghost use Rattle.model.specs.Refusals.{refusal};
+ghost use Rattle.model.specs.Good.{Good};
 ghost use Rattle.model.specs.Lists.{threads};
 ghost use Rattle.limits.specs.Limits.{eventBytes};
 ghost use Rattle.format.specs.Bytes.{trace};
-ghost use Rattle.format.specs.Layout.{fileOf};
-ghost use Rattle.judging.specs.Judged.{named, fileRefusal};
-ghost use Rattle.judging.specs.Walk.{noLocks, Ready, turnOf, outcomeOf};
+ghost use Rattle.format.specs.Layout.{Placed, fileOf};
+ghost use Rattle.judging.specs.Judged.{fileRefusal};
+ghost use Rattle.judging.specs.Walk.{noLocks, Ready, effectOf};
 
 const LOCKS: usize = Event::MAX_OBJECT + 1;
 
@@ -32,88 +31,80 @@ impl Locks {
     }
 }
 
-// What an event does to its lock.
-pub enum Turn {
-    Pass,
-    Hold(u8),
-    Stop(Refusal),
-}
-
-// What judging the events gives.
-pub enum Outcome {
-    Good,
+// What an event does: nothing to a lock, or it gives its lock a holder (0 for nobody, c + 1 for thread c), or it is refused.
+pub enum Effect {
+    Nothing,
+    Holder(u8),
     Refused(Refusal),
 }
 
-// What event k does after those before it: refusals 5 to 9 in their order, or its lock's next holder.
-fn turn_at(ev: &[u8], k: usize, holder: &[u8; LOCKS]) -> Turn
+// What event k does after those before it. Refusals 5 to 9, in their order.
+fn effect_at(ev: &[u8], k: usize, holder: &[u8; LOCKS]) -> Effect
     requires { ⌜ Ready (trace (now ev)) k (now holder) ⌝ }
-    ensures { λ r. ⌜ r ≡ turnOf (trace (now (ev .entry))) k ⌝ }
+    ensures { λ r. ⌜ r ≡ effectOf (trace (now (ev .entry))) k ⌝ }
 {
     let e = format::event_at(ev, k);
     let number = k as u16;
     if !e.kind_known() {
-        return Turn::Stop(Refusal::Kind(number));
+        return Effect::Refused(Refusal::Kind(number));
     }
     let thread = e.thread;
     if !thread.in_limit() {
-        return Turn::Stop(Refusal::Thread(number));
+        return Effect::Refused(Refusal::Thread(number));
     }
     if !e.object_in_limit() {
-        return Turn::Stop(Refusal::Object(number));
+        return Effect::Refused(Refusal::Object(number));
     }
     let object = e.object;
-    let taker = thread.number + 1;
+    let own = thread.number + 1;
     if e.kind == Event::ACQUIRE {
         if holder[object] == 0 {
-            return Turn::Hold(taker);
+            return Effect::Holder(own);
         }
-        return Turn::Stop(Refusal::LockHeld(number));
+        return Effect::Refused(Refusal::LockHeld(number));
     }
     if e.kind == Event::RELEASE {
-        if holder[object] == taker {
-            return Turn::Hold(0);
+        if holder[object] == own {
+            return Effect::Holder(0);
         }
-        return Turn::Stop(Refusal::NotHolder(number));
+        return Effect::Refused(Refusal::NotHolder(number));
     }
-    Turn::Pass
+    Effect::Nothing
 }
 
-// Refusals 5 to 9, event by event.
-fn judge_events(ev: &[u8]) -> Outcome
-    requires { ⌜ length (trace (now ev)) ≤ maxEvents ⌝ }
-    ensures { λ r. ⌜ r ≡ outcomeOf (named (refusal (trace (now (ev .entry))))) ⌝ }
+// Refusals 5 to 9, event by event, of a file that has been read.
+fn judge_events(file: &[u8], t: Trace) -> File
+    requires { ⌜ Placed (now file) t ⌝ }
+    ensures { λ r. ⌜ r ≡ fileOf (now (file .entry)) (fileRefusal eventBytes (now (file .entry))) ⌝ }
 {
+    let ev = format::events(file, t);
     let n = format::count(ev);
     let mut locks = Locks::empty();
     let mut k = 1;
     while k <= n {
-        let turn = turn_at(ev, k, &locks.holder);
-        match turn {
-            Turn::Pass => {}
-            Turn::Hold(h) => {
+        let effect = effect_at(ev, k, &locks.holder);
+        match effect {
+            Effect::Nothing => {}
+            Effect::Holder(h) => {
                 let object = format::object_at(ev, k);
                 locks.holder[object] = h;
             }
-            Turn::Stop(r) => {
-                return Outcome::Refused(r);
+            Effect::Refused(r) => {
+                return File::Refused(r);
             }
         }
         k += 1;
     }
-    Outcome::Good
+    File::Good(t)
 }
 
 // Refusals 1 to 9: what every question asks of a file first.
 pub fn judge(file: &[u8]) -> File
-    ensures { λ r. ⌜ r ≡ fileOf eventBytes (now (file .entry)) (fileRefusal eventBytes (now (file .entry))) ⌝ }
+    ensures { λ r. ⌜ r ≡ fileOf (now (file .entry)) (fileRefusal eventBytes (now (file .entry))) ⌝ }
 {
     match format::read(file) {
         File::Refused(r) => File::Refused(r),
-        File::Good(t) => match judge_events(format::events(file, t)) {
-            Outcome::Refused(r) => File::Refused(r),
-            Outcome::Good => File::Good(t),
-        },
+        File::Good(t) => judge_events(file, t),
     }
 }
 

@@ -6,7 +6,7 @@ use lib.Dec.{leb}
 use borrow.Author.Tests.{lt-leb, le-leb}
 use Rattle.model.specs.Trace.{read, release}
 use Rattle.model.specs.Refusals.{isKnownKind}
-use Rattle.limits.specs.Limits.{trailerBytes, maxBytes, areBytes}
+use Rattle.limits.specs.Limits.{trailerBytes, maxBytes, isFileSize}
 use Rattle.limits.specs.Refusals.{eventOf}
 use Rattle.limits.specs.declared.Refusal.{Refusal}
 use Rattle.limits.specs.declared.Refusal.the-variants.{Kind, Thread, Object, LockHeld, NotHolder}
@@ -18,10 +18,10 @@ kind-low c h = simp (lt-leb _ _ h)
 pub kind-rest : (c : ℕ) → read ≤ c → leb c release ≡ isKnownKind c
 kind-rest c h = simp (le-leb _ _ h)
 
-pub bytes-low : (n : ℕ) → n < trailerBytes → false ≡ areBytes n
+pub bytes-low : (n : ℕ) → n < trailerBytes → false ≡ isFileSize n
 bytes-low n h = simp (lt-leb _ _ h)
 
-pub bytes-rest : (n : ℕ) → trailerBytes ≤ n → leb n maxBytes ≡ areBytes n
+pub bytes-rest : (n : ℕ) → trailerBytes ≤ n → leb n maxBytes ≡ isFileSize n
 bytes-rest n h = simp (le-leb _ _ h)
 
 -- the event that a refusal speaks of

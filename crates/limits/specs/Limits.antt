@@ -3,19 +3,21 @@ use Prim.Native.Nat.{ℕ}
 use mathlib.Core.Bool.{Bool, _&&_}
 use lib.Dec.{leb}
 
--- an event's bytes. The definitions below are over the size; this is the size of the one edition that there is
+-- an event's bytes: the size of the one edition that there is. The format's definitions are over the size
 abbrev pub eventBytes : ℕ
 eventBytes = 4
 
+-- the trailer's bytes, and so the fewest of a file
 abbrev pub trailerBytes : ℕ
 trailerBytes = 8
 
+-- the most bytes of a file
 abbrev pub maxBytes : ℕ
 maxBytes = 4096
 
 -- a file may have n bytes
-abbrev pub areBytes : ℕ → Bool
-areBytes n = leb trailerBytes n && leb n maxBytes
+abbrev pub isFileSize : ℕ → Bool
+isFileSize n = leb trailerBytes n && leb n maxBytes
 
 -- the mark: the file's last two bytes
 abbrev pub markFirst : ℕ

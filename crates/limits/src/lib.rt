@@ -3,7 +3,7 @@ ghost use mathlib.Core.Path.{_≡_};
 ghost use lib.Dec.{leb};
 ghost use Rattle.model.specs.Good.{maxEvents, maxThread, maxObject};
 ghost use Rattle.model.specs.Refusals.{isKnownKind};
-ghost use Rattle.limits.specs.Limits.{areBytes};
+ghost use Rattle.limits.specs.Limits.{isFileSize};
 ghost use Rattle.limits.specs.Refusals.{numberOf, eventOf};
 
 // A thread, by its number.
@@ -70,9 +70,10 @@ pub struct Trace {
 impl Trace {
     pub const MAX_EVENTS: usize = 512;
 
-    // The most bytes of a file. It has a trailer, so that is the least.
+    // The most bytes of a file.
     pub const MAX_BYTES: usize = 4096;
 
+    // The trailer's bytes, and so the fewest of a file.
     pub const TRAILER_BYTES: usize = 8;
 
     // The last two bytes of a file.
@@ -82,7 +83,7 @@ impl Trace {
 
     // May a file have so many bytes?
     pub fn bytes_in_limit(n: usize) -> bool
-        ensures { λ r. ⌜ r ≡ areBytes n ⌝ }
+        ensures { λ r. ⌜ r ≡ isFileSize n ⌝ }
     {
         if n < Trace::TRAILER_BYTES {
             return false;

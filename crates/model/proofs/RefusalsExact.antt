@@ -14,7 +14,7 @@ use Rattle.model.specs.Lists.{_∈_, before, numbers}
 use Rattle.model.specs.Good.{KnownKind, maxEvents, maxThread, maxObject, holder, Free, Held, Good}
 use Rattle.model.specs.Race.{Increasing}
 use Rattle.model.specs.Check.{isFree}
-use Rattle.model.specs.Refusals.{InLimits, EventRefusal, unknown-kind, thread-over, object-over, lock-held, not-holder, Refusal, FirstRefusal, isKnownKind, eventRefusal, orNext, refusalIn, refusal, isNone, isGood}
+use Rattle.model.specs.Refusals.{InLimits, EventRefusal, unknown-kind, thread-over, object-over, lock-held, not-holder, RefusedEvent, FirstRefusal, isKnownKind, eventRefusal, orNext, refusalIn, refusal, isNone, isGood}
 use Rattle.model.proofs.Tests.{by-cases, in-cons, both, true-both, not-both, both-not, false-test, test-false}
 use Rattle.model.proofs.Lists.{mem-numbers, numbers-mem, increasing-numbers}
 use Rattle.model.proofs.CheckExact.{free-true, true-free}
@@ -117,17 +117,17 @@ module _ (t : Trace) (k : ℕ) where
 module _ (t : Trace) where
   -- ---- the first of a list in the trace's order
 
-  record FirstIn (l : List ℕ) (x : Refusal) : Type 0 where
+  record FirstIn (l : List ℕ) (x : RefusedEvent) : Type 0 where
     member : x .event ∈ l
     given : eventRefusal t (x .event) ≡ x .code
     nonzero : x .code ≢ 0
     clean : (j : ℕ) → j ∈ l → j < x .event → eventRefusal t j ≡ 0
 
-  next-some : (c k : ℕ) (r : Option Refusal) → c ≢ 0 → orNext c k r ≡ some (record { code = c; event = k })
+  next-some : (c k : ℕ) (r : Option RefusedEvent) → c ≢ 0 → orNext c k r ≡ some (record { code = c; event = k })
   next-some zero k r ne = absurd (ne refl)
   next-some (suc c) k r ne = refl
 
-  first-some : (l : List ℕ) → Increasing l → (x : Refusal) → refusalIn t l ≡ some x → FirstIn l x
+  first-some : (l : List ℕ) → Increasing l → (x : RefusedEvent) → refusalIn t l ≡ some x → FirstIn l x
   unfolding refusalIn
   first-some [] i x e = let z : _≡_ {A = ℕ} 0 1 = cc in absurd (omega arith)
   first-some (k ∷ l) i x e =
@@ -143,7 +143,7 @@ module _ (t : Trace) where
       })
       (λ p.
       let ne = eqb-false (eventRefusal t k) 0 p in
-      let d : _≡_ {A = Option Refusal} (some (record { code = eventRefusal t k; event = k })) (some x) = sym (next-some (eventRefusal t k) k (refusalIn t l) ne) ∙ e in
+      let d : _≡_ {A = Option RefusedEvent} (some (record { code = eventRefusal t k; event = k })) (some x) = sym (next-some (eventRefusal t k) k (refusalIn t l) ne) ∙ e in
       let c : eventRefusal t k ≡ x .code = cc in
       let ev : k ≡ x .event = cc in
       record {
@@ -160,7 +160,7 @@ module _ (t : Trace) where
       by-cases (eqb (eventRefusal t j) 0)
       (λ p. let z = eqb-true (eventRefusal t j) 0 p in in-cons m (λ d. rw d z) (λ n. all-clean l (rw z at e) k n))
       (λ p.
-      let d : _≡_ {A = Option Refusal} (some (record { code = eventRefusal t j; event = j })) none =
+      let d : _≡_ {A = Option RefusedEvent} (some (record { code = eventRefusal t j; event = j })) none =
       sym (next-some (eventRefusal t j) j (refusalIn t l) (eqb-false (eventRefusal t j) 0 p)) ∙ e in
       let z : _≡_ {A = ℕ} 0 1 = cc in absurd (omega arith))
 
@@ -171,7 +171,7 @@ module _ (t : Trace) where
 
   -- ---- the trace
 
-  some-first : (x : Refusal) → refusal t ≡ some x → FirstRefusal t x
+  some-first : (x : RefusedEvent) → refusal t ≡ some x → FirstRefusal t x
   unfolding refusal
   some-first x e =
       let r = first-some (numbers t) (increasing-numbers t) x e in
@@ -184,7 +184,7 @@ module _ (t : Trace) where
             refusal-nonzero t j n y (sym (refusal-found t j n y) ∙ r .clean j (numbers-mem t j u) q);
       }
 
-  same-refusal : (x y : Refusal) → FirstRefusal t x → FirstRefusal t y → x ≡ y
+  same-refusal : (x y : RefusedEvent) → FirstRefusal t x → FirstRefusal t y → x ≡ y
   same-refusal x y f g =
       let e : x .event ≡ y .event =
       by-cases (ltb (x .event) (y .event))
@@ -197,11 +197,11 @@ module _ (t : Trace) where
       ap₂ (λ (a b : ℕ). record { code = a; event = b }) c e
 
   -- the first refusal exactly in its case and order
-  pub refusal-exactly : (x : Refusal) → (refusal t ≡ some x) ↔ FirstRefusal t x
+  pub refusal-exactly : (x : RefusedEvent) → (refusal t ≡ some x) ↔ FirstRefusal t x
   unfolding refusal
   refusal-exactly x = (some-first x, (λ f. go f (refusal t) refl))
     where
-      go : FirstRefusal t x → (o : Option Refusal) → refusal t ≡ o → refusal t ≡ some x
+      go : FirstRefusal t x → (o : Option RefusedEvent) → refusal t ≡ o → refusal t ≡ some x
       go f none e =
           absurd (refusal-nonzero t (x .event) (x .code) (f .refused)
           (sym (refusal-found t (x .event) (x .code) (f .refused)) ∙ all-clean (numbers t) e (x .event) (numbers-mem t (x .event) (f .valid))))
@@ -251,6 +251,6 @@ module _ (t : Trace) where
     (λ g. true-both (le-leb (length t) maxEvents (g .size)) (rw (good-exactly (g .size) .1 g))),
   )
     where
-      none-here : (o : Option Refusal) → isNone o ≡ true → o ≡ none
+      none-here : (o : Option RefusedEvent) → isNone o ≡ true → o ≡ none
       none-here none e = refl
       none-here (some x) e = absurd (false≢true e)

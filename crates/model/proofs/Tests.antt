@@ -1,12 +1,14 @@
 -- Going by cases, and what the definitions' tests say.
-use Prim.Native.Nat.{ℕ}
-use mathlib.Core.Path.{_≡_, refl, sym, _∙_}
+use Prim.Native.Nat.{ℕ, zero, suc}
+use native.Mathlib.Omega.{arith}
+use mathlib.Core.Path.{_≡_, refl, sym, _∙_, ap}
 use mathlib.Core.Logic.{_≢_, _⊎_, inl, inr, ⊎-elim}
 use mathlib.Core.Bool.{Bool, true, false, _&&_, _||_, not, true≢false, false≢true}
 use mathlib.Core.List.{List, _∷_, List·Memᴰ, List·Memᴰ·cases-cons}
-use lib.Dec.{eqb}
-use borrow.Author.Tests.{eqb-true, eq-eqb, ne-eqb}
-use Rattle.model.specs.Trace.{Trace, kindOf, objectOf, does}
+use lib.ListN.{length, List·getD-eq-default}
+use lib.Dec.{eqb, ltb}
+use borrow.Author.Tests.{eqb-true, eq-eqb, ne-eqb, ltb-true, ltb-false}
+use Rattle.model.specs.Trace.{Trace, Event, Valid, noEvent, kindOf, objectOf, does}
 use Rattle.model.specs.Lists.{is, but}
 
 pub by-cases {ℓ} : {G : Type ℓ} (b : Bool) → (b ≡ true → G) → (b ≡ false → G) → G
@@ -97,3 +99,11 @@ module _ (t : Trace) (c x k : ℕ) where
   pub false-does : kindOf t k ≢ c → does t c x k ≡ false
   unfolding does
   false-does ne = rw (ne-eqb (kindOf t k) c ne)
+
+-- what is of some kind is an event
+pub kind-valid : (t : Trace) (k : ℕ) → kindOf t k ≢ 0 → Valid t k
+kind-valid t zero ne = absurd (ne refl)
+kind-valid t (suc k) ne =
+    by-cases (ltb k (length t))
+    (λ e. let l = ltb-true k (length t) e in record { positive = omega arith; bounded = omega arith })
+    (λ e. absurd (ne (ap (λ (x : Event). x .kind) (List·getD-eq-default t noEvent {n = k} (ltb-false k (length t) e)))))

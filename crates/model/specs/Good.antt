@@ -24,7 +24,7 @@ pub record WellFormed (t : Trace) : Type 0 where
   pub taken-free : (k : ℕ) → Valid t k → kindOf t k ≡ acquire → Free t (before k) k
   pub given-back : (k : ℕ) → Valid t k → kindOf t k ≡ release → Held t (before k) k
 
--- the limits
+-- the limits: at most 512 events, threads 0 to 15, objects 0 to 255, kinds 1 to 4
 abbrev pub maxEvents : ℕ
 maxEvents = 512
 

@@ -16,7 +16,7 @@ observed t k = lastWrite t (objectOf t k) (before k)
 
 -- ---- the same in words
 
--- w is a write of event k's cell before it, and no later one is
+-- w is a write of event k's cell before it, and no write of that cell stands between them
 pub record LastBefore (t : Trace) (k w : ℕ) : Type 0 where
   pub positive : 1 ≤ w
   pub earlier : w < k

@@ -27,13 +27,13 @@ pub data EventRefusal (t : Trace) (k n : ℕ) : Type 0 where
   lock-held : n ≡ 8 → InLimits t k → kindOf t k ≡ acquire → ¬ Free t (before k) k → EventRefusal t k n
   not-holder : n ≡ 9 → InLimits t k → kindOf t k ≡ release → ¬ Held t (before k) k → EventRefusal t k n
 
--- a refusal with its event number
-pub record Refusal : Type 0 where
+-- a refused event: the number of the refusal, and the event's
+pub record RefusedEvent : Type 0 where
   pub code : ℕ
   pub event : ℕ
 
 -- the first refusal: none is given at an earlier event
-pub record FirstRefusal (t : Trace) (x : Refusal) : Type 0 where
+pub record FirstRefusal (t : Trace) (x : RefusedEvent) : Type 0 where
   pub valid : Valid t (x .event)
   pub refused : EventRefusal t (x .event) (x .code)
   pub first : (j n : ℕ) → 1 ≤ j → j < x .event → ¬ EventRefusal t j n
@@ -52,21 +52,21 @@ eventRefusal t k =
     (cond (eqb (kindOf t k) acquire && not (isFree t (before k) k)) 8
     (cond (eqb (kindOf t k) release && not (eqb (holder t (objectOf t k) (before k)) (suc (threadOf t k)))) 9 0))))
 
-abbrev pub orNext : ℕ → ℕ → Option Refusal → Option Refusal
+abbrev pub orNext : ℕ → ℕ → Option RefusedEvent → Option RefusedEvent
 orNext zero k r = r
 orNext (suc c) k r = some (record { code = suc c; event = k })
 
 -- the first refusal among the events of a list
-unfoldable pub refusalIn : Trace → List ℕ → Option Refusal
+unfoldable pub refusalIn : Trace → List ℕ → Option RefusedEvent
 refusalIn t [] = none
 refusalIn t (k ∷ l) = orNext (eventRefusal t k) k (refusalIn t l)
 
 -- the first refusal of a trace, if there is one
-unfoldable pub refusal : Trace → Option Refusal
+unfoldable pub refusal : Trace → Option RefusedEvent
 refusal t = refusalIn t (numbers t)
 
 -- the trace is good
-abbrev pub isNone : Option Refusal → Bool
+abbrev pub isNone : Option RefusedEvent → Bool
 isNone none = true
 isNone (some x) = false
 

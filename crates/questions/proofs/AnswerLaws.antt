@@ -12,59 +12,56 @@ use Rattle.model.specs.Trace.{Trace, read, kindOf}
 use Rattle.model.specs.Lists.{threads}
 use Rattle.model.specs.Observed.{observed}
 use Rattle.model.specs.Good.{Good}
+use Rattle.model.proofs.Tests.{kind-valid}
 use Rattle.model.proofs.Histories.{observed-range}
 use Rattle.limits.specs.Limits.{eventBytes}
 use Rattle.format.specs.Bytes.{trace}
-use Rattle.format.specs.Layout.{start, eventPart, events, fileOf}
-use Rattle.format.proofs.PartLaws.{number-of-events, filled}
+use Rattle.format.specs.Layout.{start, preamble, eventPart, events, fileOf}
+use Rattle.format.proofs.PartLaws.{number-of-events, filled, part-trace, preamble-length}
 use Rattle.limits.specs.declared.Refusal.{Refusal}
-use Rattle.limits.specs.declared.Trace.{Trace as Place}
+use Rattle.limits.specs.declared.Trace.{Trace as Span}
 use Rattle.format.specs.declared.File.{File}
 use Rattle.format.specs.declared.File.the-variants.{Refused as FileRefused, Good as FileGood}
 use Rattle.judging.specs.Judged.{fileRefusal}
 use Rattle.judging.proofs.FileLaws.{judged-refused, judged-clean, judged-good, judged-placed}
-use Rattle.questions.proofs.AnswersExact.{event-valid}
+use Rattle.questions.proofs.AnswersExact.{some-write}
 use Rattle.questions.specs.Answers.{answerJudge, sees, observedIn, answerObserved}
 use Rattle.questions.specs.Note.{Slice, Part, whole, front, answerNote}
 use Rattle.questions.specs.declared.Judgement.the-variants.{Refused as Judged, Good as GoodWith}
 use Rattle.questions.specs.declared.Observed.{Observed}
 use Rattle.questions.specs.declared.Observed.the-variants.{Refused as NotAsked, Write, Start, NotARead}
 
-module _ (s : List ℕ) (f : File) (is : f ≡ fileOf eventBytes s (fileRefusal eventBytes s)) where
+module _ (s : List ℕ) (f : File) (is : f ≡ fileOf s (fileRefusal eventBytes s)) where
   module _ (r : Refusal) (e : f ≡ FileRefused r) where
-    pub judge-refused : Judged r ≡ answerJudge s
+    pub refused-judgement : Judged r ≡ answerJudge s
     unfolding answerJudge
-    judge-refused = rw (judged-refused s f is r e)
+    refused-judgement = rw (judged-refused s f is r e)
 
-    pub observed-refused : (k : ℕ) → NotAsked r ≡ answerObserved s k
+    pub refused-observed : (k : ℕ) → NotAsked r ≡ answerObserved s k
     unfolding answerObserved
-    observed-refused k = rw (judged-refused s f is r e)
+    refused-observed k = rw (judged-refused s f is r e)
 
-  module _ (t : Place) (e : f ≡ FileGood t) where
+  module _ (t : Span) (e : f ≡ FileGood t) where
     -- the number of events
     number : t .events ≡ length (events eventBytes s)
     number =
         let p = judged-placed s f is t e in
-        ap (λ (x : Place). x .events) (p .place) ∙ sym (number-of-events eventBytes s (p .layout) (omega arith))
+        ap (λ (x : Span). x .events) (p .span) ∙ sym (number-of-events eventBytes s (p .layout) (omega arith))
 
     pub number-fits : Fits w16 (t .events)
     number-fits = let n = number in let g = judged-good s f is t e .good .size in record { fits = omega arith }
 
     module _ (ev : List ℕ) (part : ev ≡ eventPart eventBytes s) where
-      trace-is : trace ev ≡ events eventBytes s
-      unfolding events
-      trace-is = ap trace part
-
       pub trace-good : Good (trace ev)
-      trace-good = rw trace-is (judged-good s f is t e .good)
+      trace-good = rw (part-trace s ev part) (judged-good s f is t e .good)
 
-      pub judge-good : (m : ℕ) → m ≡ length (threads (trace ev)) → GoodWith (t .events) m ≡ answerJudge s
+      pub good-judgement : (m : ℕ) → m ≡ length (threads (trace ev)) → GoodWith (t .events) m ≡ answerJudge s
       unfolding answerJudge
-      judge-good m c = rw (judged-clean s f is t e, number, c, trace-is)
+      good-judgement m c = rw (judged-clean s f is t e, number, c, part-trace s ev part)
 
-      pub observed-good : (k : ℕ) (o : Observed) → o ≡ observedIn (trace ev) k → o ≡ answerObserved s k
+      pub good-observed : (k : ℕ) (o : Observed) → o ≡ observedIn (trace ev) k → o ≡ answerObserved s k
       unfolding answerObserved
-      observed-good k o c = rw (judged-clean s f is t e, c, trace-is)
+      good-observed k o c = rw (judged-clean s f is t e, c, part-trace s ev part)
 
 -- ---- question 2, on good events
 
@@ -74,26 +71,22 @@ module _ (t : Trace) (k : ℕ) where
   other ne = rw (ne-eqb (kindOf t k) read ne)
 
   pub below : k < 1 → NotARead ≡ observedIn t k
-  below h = other (λ e. let v = event-valid t k (λ z. omega arith) in let p = v .positive in omega arith)
+  below h = other (λ e. let v = kind-valid t k (λ z. omega arith) in let p = v .positive in omega arith)
 
   pub above : (n : ℕ) → n ≡ length t → n < k → NotARead ≡ observedIn t k
-  above n l h = other (λ e. let v = event-valid t k (λ z. omega arith) in let b = v .bounded in omega arith)
+  above n l h = other (λ e. let v = kind-valid t k (λ z. omega arith) in let b = v .bounded in omega arith)
 
-  pub no-read : (d : ℕ) → d ≡ kindOf t k → (d ≡ read → ⊥) → NotARead ≡ observedIn t k
-  no-read d e ne = other (λ q. ne (e ∙ q))
+  pub other-kind : (d : ℕ) → d ≡ kindOf t k → (d ≡ read → ⊥) → NotARead ≡ observedIn t k
+  other-kind d e ne = other (λ q. ne (e ∙ q))
 
   module _ (d : ℕ) (ed : d ≡ kindOf t k) (r : d ≡ read) (w : ℕ) (ew : w ≡ observed t k) where
-    pub sees-start : w ≡ 0 → Start ≡ observedIn t k
+    pub start-seen : w ≡ 0 → Start ≡ observedIn t k
     unfolding observedIn
-    sees-start z = rw (eq-eqb (kindOf t k) read (sym ed ∙ r), sym ew ∙ z)
+    start-seen z = rw (eq-eqb (kindOf t k) read (sym ed ∙ r), sym ew ∙ z)
 
-    pub sees-write : (w ≡ 0 → ⊥) → Write w ≡ observedIn t k
+    pub write-seen : (w ≡ 0 → ⊥) → Write w ≡ observedIn t k
     unfolding observedIn
-    sees-write ne = rw (eq-eqb (kindOf t k) read (sym ed ∙ r), ← ew) (written w ne)
-      where
-        written : (v : ℕ) → (v ≡ 0 → ⊥) → Write v ≡ sees v
-        written zero n = absurd (n refl)
-        written (suc v) n = refl
+    write-seen ne = rw (eq-eqb (kindOf t k) read (sym ed ∙ r), ← ew) (sym (some-write w ne))
 
 -- the write seen comes before the read, so its number fits as the read's does
 pub seen-fits : (t : Trace) (k w : ℕ) → w ≡ observed t k → (w ≡ 0 → ⊥) → Fits w16 k → Fits w16 w
@@ -101,25 +94,29 @@ seen-fits t k w e ne f = let r = observed-range t k (λ z. ne (e ∙ z)) in let 
 
 -- ---- question 6
 
-module _ (file operator : Slice) (f : File) (is : f ≡ fileOf eventBytes (file .now) (fileRefusal eventBytes (file .now))) where
-  pub note-refused : (r : Refusal) → f ≡ FileRefused r → (p : Part) → p ≡ front 0 file → p ≡ answerNote file operator
+module _ (file operator : Slice) (f : File) (is : f ≡ fileOf (file .now) (fileRefusal eventBytes (file .now))) where
+  pub refused-note : (r : Refusal) → f ≡ FileRefused r → (p : Part) → p ≡ front 0 file → p ≡ answerNote file operator
   unfolding answerNote
-  note-refused r e p q = rw (judged-refused (file .now) f is r e) q
+  refused-note r e p q = rw (judged-refused (file .now) f is r e) q
 
-  module _ (t : Place) (e : f ≡ FileGood t) where
-    begins : t .start ≡ start eventBytes (file .now)
-    begins = ap (λ (x : Place). x .start) (judged-placed (file .now) f is t e .place)
+  module _ (t : Span) (e : f ≡ FileGood t) where
+    starts : t .start ≡ start (file .now)
+    starts = ap (λ (x : Span). x .start) (judged-placed (file .now) f is t e .span)
 
-    pub note-operator : t .start ≡ 0 → whole operator ≡ answerNote file operator
+    long : length (preamble (file .now)) ≡ t .start
+    long = preamble-length eventBytes (file .now) (judged-good (file .now) f is t e .layout) ∙ sym starts
+
+    pub operators-note : t .start ≡ 0 → whole operator ≡ answerNote file operator
     unfolding answerNote
-    note-operator z = rw (judged-clean (file .now) f is t e, ← begins, eq-eqb _ _ z)
+    operators-note z = rw (judged-clean (file .now) f is t e, eq-eqb (length (preamble (file .now))) 0 (long ∙ z))
 
-    pub note-preamble : (t .start ≡ 0 → ⊥) → (p : Part) → p ≡ front (t .start) file → p ≡ answerNote file operator
-    unfolding answerNote
-    note-preamble ne p q = rw (judged-clean (file .now) f is t e, ← begins, ne-eqb _ _ ne) q
+    pub preamble-note : (t .start ≡ 0 → ⊥) → (p : Part) → p ≡ front (t .start) file → p ≡ answerNote file operator
+    unfolding answerNote preamble
+    preamble-note ne p q =
+        rw (judged-clean (file .now) f is t e, ne-eqb (length (preamble (file .now))) 0 (λ z. ne (sym long ∙ z))) (rw starts at q)
 
-    pub note-within : t .start ≤ length (file .now)
-    note-within = let b = begins in let l = filled eventBytes (file .now) (judged-good (file .now) f is t e .layout) in omega arith
+    pub preamble-within : t .start ≤ length (file .now)
+    preamble-within = let b = starts in let l = filled eventBytes (file .now) (judged-good (file .now) f is t e .layout) in omega arith
 
 pub front-length : (m : ℕ) (s : List ℕ) → m ≤ length s → m ≡ length (take m s)
 front-length m s h = sym (length-take-le m s h)

@@ -1,19 +1,19 @@
 -- Each answer to a question is given exactly in its case.
 use Prim.Native.Nat.{ℕ, zero, suc, _≤_}
 use native.Mathlib.Omega.{arith}
-use mathlib.Core.Path.{_≡_, refl, sym, ap}
-use mathlib.Core.Logic.{_≢_, _↔_}
+use mathlib.Core.Path.{_≡_, refl, ap}
+use mathlib.Core.Logic.{_↔_}
 use mathlib.Core.Option.{Option, none, some}
-use mathlib.Core.List.{List}
-use lib.ListN.{length, List·getD-eq-default}
-use lib.Dec.{eqb, ltb}
-use borrow.Author.Tests.{eqb-true, eqb-false, eq-eqb, ne-eqb, ltb-true, ltb-false}
-use Rattle.model.specs.Trace.{Trace, Event, Valid, read, kindOf, noEvent}
+use mathlib.Core.List.{List, [], _∷_}
+use lib.ListN.{length}
+use lib.Dec.{eqb}
+use borrow.Author.Tests.{eqb-true, eqb-false, eq-eqb, ne-eqb}
+use Rattle.model.specs.Trace.{Trace, read, kindOf}
 use Rattle.model.specs.Observed.{observed}
-use Rattle.model.proofs.Tests.{by-cases}
+use Rattle.model.proofs.Tests.{by-cases, kind-valid}
 use Rattle.model.proofs.ObservedExact.{observed-write-exactly, observed-start-exactly}
 use Rattle.limits.specs.Limits.{eventBytes}
-use Rattle.format.specs.Layout.{events, start}
+use Rattle.format.specs.Layout.{events, preamble}
 use Rattle.limits.specs.declared.Refusal.{Refusal}
 use Rattle.judging.specs.Judged.{FileAnswer, fileRefusal}
 use Rattle.judging.proofs.JudgedExact.{file-exactly}
@@ -45,17 +45,9 @@ module _ (s : List ℕ) where
 
 -- ---- question 2
 
--- what is of some kind is an event
-pub event-valid : (t : Trace) (k : ℕ) → kindOf t k ≢ 0 → Valid t k
-event-valid t zero ne = absurd (ne refl)
-event-valid t (suc k) ne =
-    by-cases (ltb k (length t))
-    (λ e. let l = ltb-true k (length t) e in record { positive = omega arith; bounded = omega arith })
-    (λ e. absurd (ne (ap (λ (x : Event). x .kind) (List·getD-eq-default t noEvent {n = k} (ltb-false k (length t) e)))))
-
-some-write : (w : ℕ) → 1 ≤ w → sees w ≡ Write w
-some-write zero p = absurd (omega arith)
-some-write (suc w) p = refl
+pub some-write : (w : ℕ) → (w ≡ 0 → ⊥) → sees w ≡ Write w
+some-write zero ne = absurd (ne refl)
+some-write (suc w) ne = refl
 
 module _ (t : Trace) (k : ℕ) where
   by-write : (w : ℕ) → observed t k ≡ w → Reads t k → ObservedOf t k (sees w)
@@ -68,25 +60,25 @@ module _ (t : Trace) (k : ℕ) where
       by-cases (eqb (kindOf t k) read)
       (λ e.
       let r = eqb-true (kindOf t k) read e in
-      rw e (by-write (observed t k) refl (record { valid = event-valid t k (λ z. omega arith); kind = r })))
+      rw e (by-write (observed t k) refl (record { valid = kind-valid t k (λ z. omega arith); kind = r })))
       (λ e. rw e (no-read (λ v. eqb-false (kindOf t k) read e (v .kind))))
 
   shown : (o : Observed) → ObservedOf t k o → observedIn t k ≡ o
   unfolding observedIn
   shown o (sees-write {w} v l) =
       let p = l .positive in
-      rw (eq-eqb (kindOf t k) read (v .kind), observed-write-exactly t k w (λ z. omega arith) .1 l) (some-write w (l .positive))
+      rw (eq-eqb (kindOf t k) read (v .kind), observed-write-exactly t k w (λ z. omega arith) .1 l) (some-write w (λ z. omega arith))
   shown o (sees-start v l) = rw (eq-eqb (kindOf t k) read (v .kind), observed-start-exactly t k .1 l)
-  shown o (no-read n) = rw (ne-eqb (kindOf t k) read (λ e. n (record { valid = event-valid t k (λ z. omega arith); kind = e })))
+  shown o (no-read n) = rw (ne-eqb (kindOf t k) read (λ e. n (record { valid = kind-valid t k (λ z. omega arith); kind = e })))
 
 module _ (s : List ℕ) (k : ℕ) where
   observes : (p : Option Refusal) → fileRefusal eventBytes s ≡ p → Observes s k (observedBy p (events eventBytes s) k)
   observes none e = observed-good (meaning s none .0 e) (seen (events eventBytes s) k)
-  observes (some r) e = observed-refused (meaning s (some r) .0 e) refl
+  observes (some r) e = observed-refused (meaning s (some r) .0 e)
 
   told : (o : Observed) → Observes s k o → answerObserved s k ≡ o
   unfolding answerObserved
-  told o (observed-refused {r} p e) = rw (meaning s (some r) .1 p) (sym e)
+  told o (observed-refused {r} p) = rw (meaning s (some r) .1 p)
   told o (observed-good g p) = rw (meaning s none .1 g) (shown (events eventBytes s) k o p)
 
   pub observed-exactly : (o : Observed) → (answerObserved s k ≡ o) ↔ Observes s k o
@@ -95,20 +87,24 @@ module _ (s : List ℕ) (k : ℕ) where
 
 -- ---- question 6
 
+no-bytes : (l : List ℕ) → length l ≡ 0 → l ≡ []
+no-bytes [] e = refl
+no-bytes (x ∷ l) e = absurd (omega arith)
+
 module _ (file operator : Slice) where
-  noted : (o : Option Refusal) → fileRefusal eventBytes (file .now) ≡ o → Notes file operator (noteBy o (start eventBytes (file .now)) file operator)
+  noted : (o : Option Refusal) → fileRefusal eventBytes (file .now) ≡ o → Notes file operator (noteBy o file operator)
   noted none e =
       let g = meaning (file .now) none .0 e in
-      by-cases (eqb (start eventBytes (file .now)) 0)
-      (λ z. rw z (lent-note g (eqb-true _ _ z)))
-      (λ z. rw z (own-note g (eqb-false _ _ z)))
+      by-cases (eqb (length (preamble (file .now))) 0)
+      (λ z. rw z (lent-note g (no-bytes (preamble (file .now)) (eqb-true _ _ z))))
+      (λ z. rw z (own-note g (λ e. eqb-false (length (preamble (file .now))) 0 z (ap length e))))
   noted (some r) e = no-note (meaning (file .now) (some r) .0 e)
 
   returned : (p : Part) → Notes file operator p → answerNote file operator ≡ p
   unfolding answerNote
   returned p (no-note {r} f) = rw (meaning (file .now) (some r) .1 f)
-  returned p (own-note g n) = rw (meaning (file .now) none .1 g, ne-eqb (start eventBytes (file .now)) 0 n)
-  returned p (lent-note g e) = rw (meaning (file .now) none .1 g, eq-eqb (start eventBytes (file .now)) 0 e)
+  returned p (own-note g n) = rw (meaning (file .now) none .1 g, ne-eqb (length (preamble (file .now))) 0 (λ z. n (no-bytes (preamble (file .now)) z)))
+  returned p (lent-note g e) = rw (meaning (file .now) none .1 g, eq-eqb (length (preamble (file .now))) 0 (ap length e))
 
   pub note-exactly : (p : Part) → (answerNote file operator ≡ p) ↔ Notes file operator p
   unfolding answerNote

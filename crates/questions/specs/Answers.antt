@@ -47,15 +47,16 @@ pub data ObservedOf (t : Trace) (k : ℕ) : Observed → Type 0 where
   no-read : ¬ Reads t k → ObservedOf t k NotARead
 
 -- and on a file
-pub data Observes (s : List ℕ) (k : ℕ) (o : Observed) : Type 0 where
-  observed-refused : {r : Refusal} → FileRefusal eventBytes s r → o ≡ ObservedRefused r → Observes s k o
-  observed-good : GoodFile eventBytes s → ObservedOf (events eventBytes s) k o → Observes s k o
+pub data Observes (s : List ℕ) (k : ℕ) : Observed → Type 0 where
+  observed-refused : {r : Refusal} → FileRefusal eventBytes s r → Observes s k (ObservedRefused r)
+  observed-good : {o : Observed} → GoodFile eventBytes s → ObservedOf (events eventBytes s) k o → Observes s k o
 
--- computed; there is no event 0 and none above n, so these are of no kind
+-- computed
 abbrev pub sees : ℕ → Observed
 sees zero = Start
 sees (suc w) = Write (suc w)
 
+-- there is no event 0 and none above n, so these are of no kind
 unfoldable pub observedIn : Trace → ℕ → Observed
 observedIn t k = cond (eqb (kindOf t k) read) (sees (observed t k)) NotARead
 

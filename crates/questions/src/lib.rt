@@ -9,11 +9,13 @@ ghost use Rattle.format.specs.Bytes.{trace};
 ghost use Rattle.questions.specs.Answers.{answerJudge, observedIn, answerObserved};
 ghost use Rattle.questions.specs.Note.{whole, front, answerNote};
 
+// The answer to question 1.
 pub enum Judgement {
     Refused(Refusal),
     Good { events: u16, threads: u32 },
 }
 
+// The answer to question 2: the number of the write that the event sees, the start, or that it is not a read.
 pub enum Observed {
     Refused(Refusal),
     Write(u16),
@@ -76,7 +78,7 @@ fn front<'a>(s: &'a [u8], m: usize) -> &'a [u8]
     &s[..m]
 }
 
-// Question 6: the preamble, or the operator's own note where that is empty.
+// Question 6: the preamble, or the operator's own note where that is empty; for a refused file the empty part at its front.
 pub fn note<'a>(file: &'a [u8], operator: &'a [u8]) -> &'a [u8]
     ensures { λ r. ⌜ whole r ≡ answerNote (file .entry) (operator .entry) ⌝ }
 {

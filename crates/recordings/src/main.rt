@@ -1,4 +1,5 @@
-// Asks questions 1, 2 and 6 of the recordings in the text on standard input, and writes the answers.
+// Asks questions 1, 2 and 6 of the recordings in the text on standard input, and writes the answers. Question 2 is asked of 0 to 9 and,
+// where there are more than nine events, of 511 to 513 and 65535.
 // A line that begins with '=' is a title, an empty line ends a recording, and every other line has some of its bytes (text.rt).
 mod text;
 
@@ -30,18 +31,24 @@ fn refused(r: Refusal) {
     }
 }
 
-fn judged(file: &[u8]) {
+// Question 1. Says whether there are more than nine events.
+fn judged(file: &[u8]) -> bool {
     word(b"  ");
     match questions::judge(file) {
-        Judgement::Refused(r) => refused(r),
+        Judgement::Refused(r) => {
+            refused(r);
+            word(b"\n");
+            false
+        }
         Judgement::Good { events, threads } => {
             word(b"events ");
             number(events as u64);
             word(b" threads ");
             number(threads as u64);
+            word(b"\n");
+            9 < events
         }
     }
-    word(b"\n");
 }
 
 // The observed write of event k: a write, the start, or '-' for what is not a read. Says whether the file was good.
@@ -59,9 +66,9 @@ fn observed(file: &[u8], k: u16) -> bool {
     true
 }
 
-// Question 2, asked of the numbers 0 to 9.
-fn observed_all(file: &[u8]) {
-    for k in 0..10u16 {
+// Question 2, asked of the numbers from `from` on and below `to`.
+fn observed_all(file: &[u8], from: u16, to: u16) {
+    for k in from..to {
         if !observed(file, k) {
             return;
         }
@@ -83,15 +90,22 @@ fn noted(file: &[u8]) {
 }
 
 fn answers(file: &[u8]) {
-    judged(file);
+    let many = judged(file);
     word(b"  observed:");
-    observed_all(file);
+    observed_all(file, 0, 10);
     word(b"\n");
+    if many {
+        word(b"  observed from 511:");
+        observed_all(file, 511, 514);
+        word(b", at 65535:");
+        observed(file, 65535);
+        word(b"\n");
+    }
     noted(file);
 }
 
-// One line of the text, where n bytes of a recording are there; how many are there after it.
-fn line(line: &[u8], file: &mut [u8], n: usize) -> usize
+// Reads a line where n bytes of a recording are there already; gives how many are there then.
+fn take_line(line: &[u8], file: &mut [u8], n: usize) -> usize
     requires { ⌜ n ≤ length (now file) ⌝ }
     ensures { λ r. ⌜ r ≤ length (now (file .entry)) ⌝ }
 {
@@ -112,7 +126,7 @@ fn lines(text: &[u8], file: &mut [u8]) {
     let mut i = 0;
     while i < text.len() {
         let e = text::until(text, i, b'\n');
-        n = line(&text[i..e], file, n);
+        n = take_line(&text[i..e], file, n);
         if e == text.len() {
             return;
         }

@@ -1,4 +1,5 @@
-// Bytes from text: words of hex digits, two to a byte. A word that begins with a number and '*' stands that many times.
+// Bytes from text: words of hex digits, two to a byte (a last one alone is passed over). A word that begins with a number and '*'
+// stands that many times.
 ghost use mathlib.Core.Path.{_≡_};
 ghost use Prim.Native.Nat.{_≤_, _<_};
 ghost use lib.ListN.{length};
@@ -24,6 +25,7 @@ fn digit(c: u8) -> u8
     match c {
         b'0'..=b'9' => c - b'0',
         b'A'..=b'F' => c - b'A' + 10,
+        b'a'..=b'f' => c - b'a' + 10,
         _ => 0,
     }
 }

@@ -2,15 +2,16 @@ use mathlib.Core.Logic.{⊎-elim}
 use Prim.Native.Nat.{_+_, _-_}
 use borrow.Author.Needs.{needs}
 use Rattle.format.specs.Bytes.{trace}
-use Rattle.judging.proofs.WalkLaws.{Judging, judging-start, judging-valid, judging-ready, judging-pass, judging-object, judging-hold, judging-stop, judging-end}
+use Rattle.judging.proofs.WalkLaws.{Judging, judging-start, judging-valid, judging-ready, judging-pass, judging-object, judging-hold}
+use Rattle.judging.proofs.FileLaws.{few-events, events-refused, events-good}
 use Rattle.judging.proofs.judge_events.Statement.{statement}
 use Rattle.judging.proofs.judge_events.Tie as tie
 
 abbrev Inv-loop : tie.InvT-loop
-Inv-loop ev n locks₀ k₀ locks k = Judging (trace ev) n k locks
+Inv-loop file t ev n locks₀ k₀ locks k = Judging (trace ev) n k locks
 
 abbrev μ-loop : tie.MeasureT-loop
-μ-loop ev n locks₀ k₀ locks k = n + 1 - k
+μ-loop file t ev n locks₀ k₀ locks k = n + 1 - k
 
 pub judge-events-spec : {M : Type 1} → statement M
 judge-events-spec =
@@ -20,15 +21,16 @@ judge-events-spec =
     μ-loop
     (λ c κs. search needs)
     (λ c κs. search needs)
-    (λ c. search (judging-start, needs))
+    (λ c κs. search needs)
+    (λ c. search (judging-start, few-events, needs))
     (λ c κs. search (judging-ready, needs))
     (λ c. search needs)
     (λ c. search needs)
     (λ c κs. search (judging-valid, needs))
     (λ c. search (judging-object, needs))
     (λ c. search needs)
-    (λ c. search (judging-stop, needs))
+    (λ c. search (events-refused, needs))
     (λ c. search needs)
     (λ c. search needs)
     (λ c. ⊎-elim (λ w. search (judging-pass, needs)) (λ w. search (judging-hold, needs)) (c .match .came))
-    (λ c. search (judging-end, needs)))
+    (λ c. search (events-good, needs)))

@@ -1,4 +1,4 @@
-use Rattle.questions.proofs.AnswerLaws.{number-fits, trace-good, judge-refused, judge-good}
+use Rattle.questions.proofs.AnswerLaws.{number-fits, trace-good, refused-judgement, good-judgement}
 use Rattle.judging.proofs.FileLaws.{judged-placed}
 use borrow.Author.Needs.{needs}
 use Rattle.questions.proofs.judge.Statement.{statement}
@@ -14,5 +14,5 @@ judge-spec =
     (λ c. search (number-fits, needs))
     (λ c κs. search (judged-placed, needs))
     (λ c κs. search (trace-good, needs))
-    (λ c. search (judge-refused, needs))
-    (λ c. search (judge-good, needs)))
+    (λ c. search (refused-judgement, needs))
+    (λ c. search (good-judgement, needs)))

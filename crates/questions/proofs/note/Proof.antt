@@ -1,4 +1,4 @@
-use Rattle.questions.proofs.AnswerLaws.{note-within, note-refused, note-operator, note-preamble}
+use Rattle.questions.proofs.AnswerLaws.{preamble-within, refused-note, operators-note, preamble-note}
 use borrow.Author.Needs.{needs}
 use Rattle.questions.proofs.note.Statement.{statement}
 use Rattle.questions.proofs.note.Tie as tie
@@ -11,7 +11,7 @@ note-spec =
     (λ c. search needs)
     (λ c κs. search needs)
     (λ c. search needs)
-    (λ c κs. search (note-within, needs))
-    (λ c. search (note-refused, needs))
-    (λ c. search (note-operator, needs))
-    (λ c. search (note-preamble, needs)))
+    (λ c κs. search (preamble-within, needs))
+    (λ c. search (refused-note, needs))
+    (λ c. search (operators-note, needs))
+    (λ c. search (preamble-note, needs)))

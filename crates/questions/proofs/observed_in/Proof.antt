@@ -1,4 +1,4 @@
-use Rattle.questions.proofs.AnswerLaws.{below, above, no-read, sees-start, sees-write, seen-fits}
+use Rattle.questions.proofs.AnswerLaws.{below, above, other-kind, start-seen, write-seen, seen-fits}
 use borrow.Author.Needs.{needs}
 use Rattle.questions.proofs.observed_in.Statement.{statement}
 use Rattle.questions.proofs.observed_in.Tie as tie
@@ -11,8 +11,8 @@ observed-in-spec =
     (λ c κs. search needs)
     (λ c. search (above, needs))
     (λ c κs. search needs)
-    (λ c. search (no-read, needs))
+    (λ c. search (other-kind, needs))
     (λ c κs. search needs)
-    (λ c. search (sees-start, needs))
+    (λ c. search (start-seen, needs))
     (λ c. search (seen-fits, needs))
-    (λ c. search (sees-write, needs)))
+    (λ c. search (write-seen, needs)))

@@ -1,4 +1,4 @@
-use Rattle.questions.proofs.AnswerLaws.{observed-refused, observed-good}
+use Rattle.questions.proofs.AnswerLaws.{refused-observed, good-observed}
 use Rattle.judging.proofs.FileLaws.{judged-placed}
 use borrow.Author.Needs.{needs}
 use Rattle.questions.proofs.observed_write.Statement.{statement}
@@ -13,5 +13,5 @@ observed-write-spec =
     (λ c. search needs)
     (λ c κs. search (judged-placed, needs))
     (λ c κs. search needs)
-    (λ c. search (observed-refused, needs))
-    (λ c. search (observed-good, needs)))
+    (λ c. search (refused-observed, needs))
+    (λ c. search (good-observed, needs)))

@@ -4,10 +4,10 @@ use Rattle.recordings.proofs.observed_all.Statement.{statement}
 use Rattle.recordings.proofs.observed_all.Tie as tie
 
 abbrev Inv-loop : tie.InvT-loop
-Inv-loop file k₀ k = k ≤ 10
+Inv-loop file from to k₀ k = from ≤ k
 
 abbrev μ-loop : tie.MeasureT-loop
-μ-loop file k₀ k = 10 - k
+μ-loop file from to k₀ k = to - k
 
 pub observed-all-spec : {M : Type 1} → statement M
 observed-all-spec =

@@ -2,10 +2,7 @@ use borrow.Author.Needs.{needs}
 use Rattle.judging.specs.Walk.{noLocks}
 use Rattle.judging.proofs.Locks.empty.Statement.{statement}
 use Rattle.judging.proofs.Locks.empty.Tie as tie
-use Rattle.judging.proofs.Locks.empty.Reads as reads
-use Rattle.judging.proofs.Locks.empty.Lts as lts
 
--- src/lib.rt:28:5
 returns : tie.Need-returns
 unfolding noLocks
 returns c = search needs

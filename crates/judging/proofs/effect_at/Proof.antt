@@ -1,10 +1,10 @@
-use Rattle.judging.proofs.TurnLaws.{kind-unknown, thread-over-limit, object-over-limit, taker-fits, object-below, acquires, was-held, releases, not-by-holder, passes}
+use Rattle.judging.proofs.EffectLaws.{kind-unknown, thread-over-limit, object-over-limit, own-fits, object-below, acquires, was-held, releases, not-by-holder, passes}
 use borrow.Author.Needs.{needs}
-use Rattle.judging.proofs.turn_at.Statement.{statement}
-use Rattle.judging.proofs.turn_at.Tie as tie
+use Rattle.judging.proofs.effect_at.Statement.{statement}
+use Rattle.judging.proofs.effect_at.Tie as tie
 
-pub turn-at-spec : {M : Type 1} → statement M
-turn-at-spec =
+pub effect-at-spec : {M : Type 1} → statement M
+effect-at-spec =
     tie.close
     (tie.spec
     (λ c κs. search needs)
@@ -15,7 +15,7 @@ turn-at-spec =
     (λ c. search (thread-over-limit, needs))
     (λ c κs. search needs)
     (λ c. search (object-over-limit, needs))
-    (λ c. search (taker-fits, needs))
+    (λ c. search (own-fits, needs))
     (λ c. search (object-below, needs))
     (λ c. search (acquires, needs))
     (λ c. search (was-held, needs))
