@@ -1,7 +1,7 @@
 -- The ways through the questions.
-use Prim.Native.Nat.{ℕ, zero, suc, _≤_, _<_}
+use Prim.Native.Nat.{ℕ, _≤_, _<_}
 use native.Mathlib.Omega.{arith}
-use mathlib.Core.Path.{_≡_, refl, sym, _∙_, ap}
+use mathlib.Core.Path.{_≡_, sym, _∙_, ap}
 use mathlib.Core.List.{List}
 use lib.ListN.{length, take}
 use lib.Seq.{length-take-le}
@@ -25,7 +25,7 @@ use Rattle.format.specs.declared.File.the-variants.{Refused as FileRefused, Goo
 use Rattle.judging.specs.Judged.{fileRefusal}
 use Rattle.judging.proofs.FileLaws.{judged-refused, judged-clean, judged-good, judged-placed}
 use Rattle.questions.proofs.AnswersExact.{some-write}
-use Rattle.questions.specs.Answers.{answerJudge, sees, observedIn, answerObserved}
+use Rattle.questions.specs.Answers.{answerJudge, observedIn, answerObserved}
 use Rattle.questions.specs.Note.{Slice, Part, whole, front, answerNote}
 use Rattle.questions.specs.declared.Judgement.the-variants.{Refused as Judged, Good as GoodWith}
 use Rattle.questions.specs.declared.Observed.{Observed}
