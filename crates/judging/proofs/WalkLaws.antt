@@ -7,7 +7,7 @@ use mathlib.Core.Logic.{_≢_}
 use mathlib.Core.Bool.{true, false, cond, Bool}
 use mathlib.Core.Option.{none, some}
 use mathlib.Core.List.{List, _∷_}
-use lib.ListN.{length, set, length-set, getD-replicate, length-replicate}
+use lib.ListN.{length, getD, set, length-set, getD-replicate, length-replicate}
 use lib.Seq.{getD-set-same, getD-set-other}
 use lib.Dec.{eqb}
 use borrow.Author.Tests.{eqb-true, eqb-false}
@@ -50,21 +50,20 @@ module _ (t : Trace) (k : ℕ) where
       never false false e = let z : _≡_ {A = ℕ} 0 1 = cc in omega arith
   stopped (suc n) u r e f = ((λ z. omega arith), cc)
 
-  passed : effectOf t k ≡ Nothing → (eventRefusal t k ≡ 0) × (locking t k ≡ Nothing)
+  -- an event that is not refused has its effect
+  unrefused : (v : Effect) → ((r : Refusal) → Refused r ≡ v → ⊥) → effectOf t k ≡ v → (eventRefusal t k ≡ 0) × (locking t k ≡ v)
   unfolding effectOf
-  passed e = go (eventRefusal t k) refl e
+  unrefused v other e = go (eventRefusal t k) refl e
     where
-      go : (n : ℕ) → eventRefusal t k ≡ n → refusedOr n k (locking t k) ≡ Nothing → (eventRefusal t k ≡ 0) × (locking t k ≡ Nothing)
+      go : (n : ℕ) → eventRefusal t k ≡ n → refusedOr n k (locking t k) ≡ v → (eventRefusal t k ≡ 0) × (locking t k ≡ v)
       go zero q f = (q, f)
-      go (suc n) q f = let z : _≡_ {A = ℕ} 0 1 = cc in absurd (omega arith)
+      go (suc n) q f = absurd (other (refusalAt (suc n) k) f)
+
+  passed : effectOf t k ≡ Nothing → (eventRefusal t k ≡ 0) × (locking t k ≡ Nothing)
+  passed e = unrefused Nothing (λ r f. let z : _≡_ {A = ℕ} 0 1 = cc in omega arith) e
 
   held : (v : ℕ) → effectOf t k ≡ Holder v → (eventRefusal t k ≡ 0) × (locking t k ≡ Holder v)
-  unfolding effectOf
-  held v e = go (eventRefusal t k) refl e
-    where
-      go : (n : ℕ) → eventRefusal t k ≡ n → refusedOr n k (locking t k) ≡ Holder v → (eventRefusal t k ≡ 0) × (locking t k ≡ Holder v)
-      go zero q f = (q, f)
-      go (suc n) q f = let z : _≡_ {A = ℕ} 0 1 = cc in absurd (omega arith)
+  held v e = unrefused (Holder v) (λ r f. let z : _≡_ {A = ℕ} 0 1 = cc in omega arith) e
 
   -- no lock changes
   after-pass : locking t k ≡ Nothing → (h : List ℕ) (x : ℕ) → holder t x (k ∷ h) ≡ holder t x h
@@ -121,20 +120,25 @@ module _ {t : Trace} {n k : ℕ} {locks : Locks} (p : Judging t n k locks) (h : 
   more-clean : eventRefusal t k ≡ 0 → (j : ℕ) → 1 ≤ j → j < k + 1 → eventRefusal t j ≡ 0
   more-clean e j a b = by-cases (eqb j k) (λ q. rw (eqb-true j k q) e) (λ q. let ne = eqb-false j k q in p .clean j a (omega arith))
 
+  -- event k is good, and the new table is that after it
+  next : eventRefusal t k ≡ 0 → (l : Locks) → length (l .holder) ≡ maxObject + 1
+      → ((x : ℕ) → x ≤ maxObject → getD (l .holder) x 0 ≡ holder t x (k ∷ before k)) → Judging t n (k + 1) l
+  next e l w f =
+      record {
+        size = p .size;
+        few = p .few;
+        positive = omega arith;
+        high = omega arith;
+        clean = more-clean e;
+        table = record { is = λ x b. rw (next-before k (p .positive)) (f x b) };
+        wide = w;
+      }
+
   module _ (u : Effect) (eu : u ≡ effectOf t k) where
     pub judging-pass : u ≡ Nothing → (l : Locks) → l ≡ locks → Judging t n (k + 1) l
     judging-pass f l el =
         let w = passed t k (sym eu ∙ f) in
-        rw el
-        (record {
-          size = p .size;
-          few = p .few;
-          positive = omega arith;
-          high = omega arith;
-          clean = more-clean (w .0);
-          table = record { is = λ x b. p .table .is x b ∙ sym (ap (holder t x) (next-before k (p .positive)) ∙ after-pass t k (w .1) (before k) x) };
-          wide = p .wide;
-        })
+        rw el (next (w .0) locks (p .wide) (λ x b. p .table .is x b ∙ sym (after-pass t k (w .1) (before k) x)))
 
     pub judging-object : (v : ℕ) → u ≡ Holder v → (o : ℕ) → o ≡ objectOf t k → o < maxObject + 1
     judging-object v f o eo =
@@ -146,27 +150,12 @@ module _ {t : Trace} {n k : ℕ} {locks : Locks} (p : Judging t n k locks) (h : 
         let b = judging-object v f o eo in
         let y = p .wide in
         rw el
-        (record {
-          size = p .size;
-          few = p .few;
-          positive = omega arith;
-          high = omega arith;
-          clean = more-clean (w .0);
-          table =
-              record {
-                is = λ x c.
-                    by-cases (eqb x o)
-                    (λ q.
-                    let e : x ≡ o = eqb-true x o q in
-                    rw (e, getD-set-same (locks .holder) o v 0 (omega arith), eo, next-before k (p .positive))
-                    (sym (after-hold t k v (w .1) (before k))))
-                    (λ q.
-                    let ne = eqb-false x o q in
-                    rw (getD-set-other (locks .holder) o x v 0 ne, next-before k (p .positive))
-                    (p .table .is x c ∙ sym (after-other t k (before k) x (λ e. ne (e ∙ sym eo)))));
-              };
-          wide = length-set (locks .holder) o v ∙ y;
-        })
+        (next (w .0) (record { holder = set (locks .holder) o v }) (length-set (locks .holder) o v ∙ y) (λ x c.
+        by-cases (eqb x o)
+        (λ q. rw (eqb-true x o q, getD-set-same (locks .holder) o v 0 (omega arith), eo) (sym (after-hold t k v (w .1) (before k))))
+        (λ q.
+        let ne = eqb-false x o q in
+        rw (getD-set-other (locks .holder) o x v 0 ne) (p .table .is x c ∙ sym (after-other t k (before k) x (λ e. ne (e ∙ sym eo)))))))
 
     pub judging-stop : (r : Refusal) → u ≡ Refused r → named (refusal t) ≡ some r
     unfolding effectOf
