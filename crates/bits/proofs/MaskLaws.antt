@@ -44,10 +44,13 @@ bit-other (suc y) zero h = rw (div-one) (even-pow y)
 bit-other (suc y) (suc x) h = bit-suc (2 ^ suc y) x ∙ ap (λ (z : ℕ). bit z x) (half-pow y) ∙ bit-other y x (λ e. h (ap suc e))
 
 -- an or with a one in the lowest place, and above it
-low-one : (m b : ℕ) → m % 2 ≡ b → b < 2 → bitOr m 1 % 2 ≡ 1
-low-one m zero e h = or-mod m 1 1 ∙ rw e
-low-one m (suc zero) e h = or-mod m 1 1 ∙ rw e
-low-one m (suc (suc b)) e h = absurd (omega arith)
+or-one : (b : ℕ) → b < 2 → bitOr b 1 ≡ 1
+or-one zero h = refl
+or-one (suc zero) h = refl
+or-one (suc (suc b)) h = absurd (omega arith)
+
+low-one : (m : ℕ) → bitOr m 1 % 2 ≡ 1
+low-one m = or-mod m 1 1 ∙ or-one (m % 2) (mod-lt _ (lit< tt))
 
 half-one : (m : ℕ) → bitOr m 1 / 2 ≡ m / 2
 half-one m = or-shr m 1 1 ∙ or-zero-r (m / 2)
@@ -62,8 +65,7 @@ half-above m x = or-shr m (2 ^ suc x) 1 ∙ ap (bitOr (m / 2)) (half-pow x)
 ones-or : (x m : ℕ) → ones (bitOr m (2 ^ x)) + bit m x ≡ ones m + 1
 ones-or zero m =
     let d : m / 1 ≡ m = div-one m in
-    let s : m % 2 < 2 = mod-lt _ (lit< tt) in
-    let l : bitOr m 1 % 2 ≡ 1 = low-one m (m % 2) refl s in
+    let l : bitOr m 1 % 2 ≡ 1 = low-one m in
     let h : ones (bitOr m 1 / 2) ≡ ones (m / 2) = ap ones (half-one m) in
     let p = ones-step m in
     let q = ones-step (bitOr m 1) in
@@ -85,12 +87,7 @@ none-held x = rw (bit-zero x)
 
 pub held-same : (m x : ℕ) → holds (including m x) x ≡ true
 unfolding holds including
-held-same m x = eq-eqb _ _ (bit-or m (2 ^ x) x ∙ ap (bitOr (bit m x)) (bit-same x) ∙ one (bit m x) (bit-small m x))
-  where
-    one : (b : ℕ) → b < 2 → bitOr b 1 ≡ 1
-    one zero h = refl
-    one (suc zero) h = refl
-    one (suc (suc b)) h = absurd (omega arith)
+held-same m x = eq-eqb _ _ (bit-or m (2 ^ x) x ∙ ap (bitOr (bit m x)) (bit-same x) ∙ or-one (bit m x) (bit-small m x))
 
 pub held-other : (m x y : ℕ) → (y ≡ x → ⊥) → holds (including m x) y ≡ holds m y
 unfolding holds including

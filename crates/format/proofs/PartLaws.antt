@@ -87,8 +87,8 @@ module _ (z : ℕ) (s : List ℕ) (l : Layout z s) where
 -- ---- the parts that the code lends
 
 module _ (s : List ℕ) (t : Span) (p : Placed s t) where
-  pub place-low : t .start ≤ length s - trailerBytes
-  place-low = let f = filled eventBytes s (p .layout) in let e = ap (λ (u : Span). u .start) (p .span) in omega arith
+  pub span-low : t .start ≤ length s - trailerBytes
+  span-low = let f = filled eventBytes s (p .layout) in let e = ap (λ (u : Span). u .start) (p .span) in omega arith
 
   pub event-part : take (length s - trailerBytes - t .start) (drop (t .start) s) ≡ eventPart eventBytes s
   unfolding eventPart

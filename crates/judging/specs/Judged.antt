@@ -25,6 +25,7 @@ pub data FileRefusal (z : ℕ) (s : List ℕ) (r : Refusal) : Type 0 where
   by-layout : LayoutRefusal z s r → FileRefusal z s r
   by-event : Layout z s → (x : RefusedEvent) → FirstRefusal (events z s) x → numberOf r ≡ x .code → eventOf r ≡ At (x .event) → FileRefusal z s r
 
+-- what the first refusal of a file, or that there is none, means
 abbrev pub FileAnswer : ℕ → List ℕ → Option Refusal → Type 0
 FileAnswer z s none = GoodFile z s
 FileAnswer z s (some r) = FileRefusal z s r
@@ -35,10 +36,12 @@ FileAnswer z s (some r) = FileRefusal z s r
 unfoldable pub refusalAt : ℕ → ℕ → Refusal
 refusalAt n k = cond (eqb n 5) (Kind k) (cond (eqb n 6) (Thread k) (cond (eqb n 7) (Object k) (cond (eqb n 8) (LockHeld k) (NotHolder k))))
 
+-- a refused event as a refusal
 abbrev pub named : Option RefusedEvent → Option Refusal
 named none = none
 named (some x) = some (refusalAt (x .code) (x .event))
 
+-- the first of two refusals
 abbrev pub orElse : Option Refusal → Option Refusal → Option Refusal
 orElse none o = o
 orElse (some r) o = some r

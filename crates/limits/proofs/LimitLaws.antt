@@ -1,42 +1,21 @@
--- The ways through the tests of the limits, and the event numbers of the refusals.
+-- The ways through a test of a range, and the event numbers of the refusals.
 use Prim.Native.Nat.{ℕ, _≤_, _<_}
-use mathlib.Core.Path.{_≡_}
-use mathlib.Core.Bool.{false}
+use mathlib.Core.Path.{_≡_, sym, _∙_, ap}
+use mathlib.Core.Bool.{false, _&&_}
 use lib.Dec.{leb}
 use borrow.Author.Tests.{lt-leb, le-leb}
-use Rattle.model.specs.Trace.{read, release}
-use Rattle.model.specs.Refusals.{isKnownKind}
-use Rattle.limits.specs.Limits.{trailerBytes, maxBytes, isFileSize}
 use Rattle.limits.specs.Refusals.{eventOf}
 use Rattle.limits.specs.declared.Refusal.{Refusal}
-use Rattle.limits.specs.declared.Refusal.the-variants.{Kind, Thread, Object, LockHeld, NotHolder}
 use Rattle.limits.specs.declared.EventNumber.the-variants.{At}
 
-pub kind-low : (c : ℕ) → c < read → false ≡ isKnownKind c
-kind-low c h = simp (lt-leb _ _ h)
+-- from low to high: below it, and the rest
+module _ (low high n : ℕ) where
+  pub range-below : n < low → false ≡ (leb low n && leb n high)
+  range-below h = simp (lt-leb _ _ h)
 
-pub kind-rest : (c : ℕ) → read ≤ c → leb c release ≡ isKnownKind c
-kind-rest c h = simp (le-leb _ _ h)
+  pub range-rest : low ≤ n → leb n high ≡ (leb low n && leb n high)
+  range-rest h = simp (le-leb _ _ h)
 
-pub bytes-low : (n : ℕ) → n < trailerBytes → false ≡ isFileSize n
-bytes-low n h = simp (lt-leb _ _ h)
-
-pub bytes-rest : (n : ℕ) → trailerBytes ≤ n → leb n maxBytes ≡ isFileSize n
-bytes-rest n h = simp (le-leb _ _ h)
-
--- the event that a refusal speaks of
-module _ {r : Refusal} (k : ℕ) where
-  pub kind-at : r ≡ Kind k → At k ≡ eventOf r
-  kind-at e = rw e
-
-  pub thread-at : r ≡ Thread k → At k ≡ eventOf r
-  thread-at e = rw e
-
-  pub object-at : r ≡ Object k → At k ≡ eventOf r
-  object-at e = rw e
-
-  pub held-at : r ≡ LockHeld k → At k ≡ eventOf r
-  held-at e = rw e
-
-  pub holder-at : r ≡ NotHolder k → At k ≡ eventOf r
-  holder-at e = rw e
+-- the event that a refusal speaks of is that of its case
+pub same-event : {r : Refusal} (q : Refusal) (k : ℕ) → r ≡ q → eventOf q ≡ At k → At k ≡ eventOf r
+same-event q k e f = sym (ap eventOf e ∙ f)

@@ -1,6 +1,5 @@
 // Bytes from text: words of hex digits, two to a byte (a last one alone is passed over). A word that begins with a number and '*'
 // stands that many times.
-ghost use mathlib.Core.Path.{_≡_};
 ghost use Prim.Native.Nat.{_≤_, _<_};
 ghost use lib.ListN.{length};
 
@@ -30,12 +29,6 @@ fn digit(c: u8) -> u8
     }
 }
 
-fn wide(b: u8) -> usize
-    ensures { λ r. ⌜ r ≡ b ⌝ }
-{
-    b as usize
-}
-
 // The number, of at most four digits, before `end`.
 fn decimal(word: &[u8], end: usize) -> usize
     requires { ⌜ end ≤ length (now word) ⌝ }
@@ -46,7 +39,7 @@ fn decimal(word: &[u8], end: usize) -> usize
         if 1000 <= n {
             return n;
         }
-        n = n * 10 + wide(digit(word[i]));
+        n = n * 10 + digit(word[i]) as usize;
         i += 1;
     }
     n
