@@ -19,6 +19,14 @@ maxBytes = 4096
 abbrev pub isFileSize : ℕ → Bool
 isFileSize n = leb trailerBytes n && leb n maxBytes
 
+-- the bytes of the work area that questions 3 and 4 borrow
+abbrev pub areaBytes : ℕ
+areaBytes = 65536
+
+-- a work area of n bytes is long enough
+unfoldable pub isAreaSize : ℕ → Bool
+isAreaSize n = leb areaBytes n
+
 -- the mark: the file's last two bytes
 abbrev pub markFirst : ℕ
 markFirst = 0x50

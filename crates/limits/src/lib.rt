@@ -3,7 +3,7 @@ ghost use mathlib.Core.Path.{_≡_};
 ghost use lib.Dec.{leb};
 ghost use Rattle.model.specs.Good.{maxEvents, maxThread, maxObject};
 ghost use Rattle.model.specs.Refusals.{isKnownKind};
-ghost use Rattle.limits.specs.Limits.{isFileSize};
+ghost use Rattle.limits.specs.Limits.{isFileSize, isAreaSize};
 ghost use Rattle.limits.specs.Refusals.{numberOf, eventOf};
 
 // A thread, by its number.
@@ -76,6 +76,9 @@ impl Trace {
     // The trailer's bytes, and so the fewest of a file.
     pub const TRAILER_BYTES: usize = 8;
 
+    // The bytes of the work area that questions 3 and 4 borrow.
+    pub const AREA_BYTES: usize = 65536;
+
     // The last two bytes of a file.
     pub const MARK_FIRST: u8 = 0x50;
 
@@ -96,6 +99,13 @@ impl Trace {
         ensures { λ r. ⌜ r ≡ leb n maxEvents ⌝ }
     {
         n <= Trace::MAX_EVENTS
+    }
+
+    // Is a work area of so many bytes long enough?
+    pub fn area_suffices(n: usize) -> bool
+        ensures { λ r. ⌜ r ≡ isAreaSize n ⌝ }
+    {
+        Trace::AREA_BYTES <= n
     }
 }
 

@@ -1,1 +1,5 @@
 pub mod ObservedLaws
+pub mod TableLaws
+pub mod PassLaws
+pub mod ReleaseLaws
+pub mod LinkFacts

@@ -9,14 +9,15 @@ use Rattle.model.specs.Trace.{Trace, Valid, write, kindOf, objectOf, does}
 use Rattle.model.specs.Lists.{upTo}
 use Rattle.model.specs.Observed.{lastWrite, observed}
 
-module _ (t : Trace) (j cell d : ℕ) (ed : d ≡ kindOf t j) where
-  pub other-kind : (d ≡ write → ⊥) → false ≡ does t write cell j
+-- what event k does
+module _ (t : Trace) (k c x kind : ℕ) (ek : kind ≡ kindOf t k) where
+  pub other-kind : (kind ≡ c → ⊥) → false ≡ does t c x k
   unfolding does
-  other-kind ne = rw (ne-eqb (kindOf t j) write (λ e. ne (ed ∙ e)))
+  other-kind ne = rw (ne-eqb (kindOf t k) c (λ e. ne (ek ∙ e)))
 
-  pub same-kind : d ≡ write → (x : ℕ) → x ≡ objectOf t j → eqb x cell ≡ does t write cell j
+  pub same-kind : kind ≡ c → (o : ℕ) → o ≡ objectOf t k → eqb o x ≡ does t c x k
   unfolding does
-  same-kind e x ex = rw (eq-eqb (kindOf t j) write (sym ed ∙ e), ex)
+  same-kind e o eo = rw (eq-eqb (kindOf t k) c (sym ek ∙ e), eo)
 
 -- the events between j and k do not write the cell
 pub record Walking (t : Trace) (k cell j : ℕ) : Type 0 where

@@ -19,7 +19,7 @@ use Rattle.model.proofs.Lists.{any-mem, mem-any, nearest-mem, mem-numbe
 use Rattle.model.proofs.Histories.{observed-range}
 use Rattle.model.proofs.LeastSet.{rounds-fixed, least-base, least-step, least-in}
 
-matching-valid : (t : Trace) (k : ℕ) → matching t k ≢ 0 → Valid t (matching t k)
+pub matching-valid : (t : Trace) (k : ℕ) → matching t k ≢ 0 → Valid t (matching t k)
 unfolding matching
 matching-valid t k ne = mem-numbers t (matching t k) (nearest-mem (λ j. givesBack t k j) (numbers t) ne)
 
@@ -45,11 +45,11 @@ module _ (t : Trace) (R : List ℕ) where
   unfolding isEarlier
   true-earlier j k e = true-both (lt-ltb j k (e .less)) (eq-eqb _ _ (e .thread))
 
-  exempt-false : (j : ℕ) → isExempt t R j ≡ false → Outside t R j
+  pub exempt-false : (j : ℕ) → isExempt t R j ≡ false → Outside t R j
   unfolding isExempt
   exempt-false j e r m p = clash (any-mem (λ i. eqb (threadOf t i) (threadOf t j)) m (eq-eqb _ _ p)) e
 
-  false-exempt : (j : ℕ) → Outside t R j → isExempt t R j ≡ false
+  pub false-exempt : (j : ℕ) → Outside t R j → isExempt t R j ≡ false
   unfolding isExempt
   false-exempt j out =
       by-cases (isExempt t R j) (λ e. let r = mem-any (λ i. eqb (threadOf t i) (threadOf t j)) R e in absurd (out (r .0) (r .1) (eqb-true _ _ (r .2)))) (λ e. e)

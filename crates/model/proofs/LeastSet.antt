@@ -23,7 +23,7 @@ grow p q (k ∷ l) f =
     (λ g. rw (e, g) (inr (⊎-elim (λ d. let z : length (keep p l) ≡ length (keep q l) = ap length d in omega arith) (λ z. omega arith) ih)))
     (λ g. rw (e, g) ih))
 
-length-keep : (p : ℕ → Bool) (n : ℕ) → length (keep p (upTo n)) ≤ n
+pub length-keep : (p : ℕ → Bool) (n : ℕ) → length (keep p (upTo n)) ≤ n
 length-keep p zero = zero-le
 length-keep p (suc n) = let ih = length-keep p n in by-cases (p (suc n)) (λ e. rw e (omega arith)) (λ e. rw e (omega arith))
 

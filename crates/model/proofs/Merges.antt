@@ -17,7 +17,7 @@ use Rattle.model.specs.Grid.{side, mayStep, passed, stepAt, after, orEls
 use Rattle.model.proofs.Tests.{by-cases, clash, both, is-true, is-false, false-is, but-true, true-but}
 use Rattle.model.proofs.GridSteps.{side-other, stepIn, Walk}
 
-getD-mem : (l : List ℕ) (i : ℕ) → i < length l → getD l i 0 ∈ l
+pub getD-mem : (l : List ℕ) (i : ℕ) → i < length l → getD l i 0 ∈ l
 getD-mem [] i p = absurd (omega arith)
 getD-mem (x ∷ l) zero p = List·Memᴰ·head refl
 getD-mem (x ∷ l) (suc i) p = List·Memᴰ·tail (getD-mem l i (omega arith))
@@ -29,7 +29,7 @@ drop-head [] (suc i) k r e = absurd (nil≢cons (sym e))
 drop-head (x ∷ l) zero k r e = (omega arith, cc, cc)
 drop-head (x ∷ l) (suc i) k r e = let z = drop-head l i k r e in (omega arith, z .1, z .2)
 
-passed-suc : (l : List ℕ) (i : ℕ) → i < length l → passed l (suc i) ≡ getD l i 0 ∷ passed l i
+pub passed-suc : (l : List ℕ) (i : ℕ) → i < length l → passed l (suc i) ≡ getD l i 0 ∷ passed l i
 passed-suc l i p = ap reverse (take-suc l i 0 p) ∙ reverse-append (take i l) (getD l i 0 ∷ [])
 
 -- ---- the best of a set of lists

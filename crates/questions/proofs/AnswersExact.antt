@@ -24,7 +24,7 @@ use Rattle.questions.specs.declared.Observed.{Observed}
 use Rattle.questions.specs.declared.Observed.the-variants.{Write}
 
 -- what the first refusal of a file, or that there is none, means
-meaning : (s : List ℕ) (o : Option Refusal) → (fileRefusal eventBytes s ≡ o) ↔ FileAnswer eventBytes s o
+pub meaning : (s : List ℕ) (o : Option Refusal) → (fileRefusal eventBytes s ≡ o) ↔ FileAnswer eventBytes s o
 meaning s o = file-exactly eventBytes (omega arith) s o
 
 -- ---- question 1

@@ -2,3 +2,7 @@
 pub mod AnswersExact
 -- The ways through the code
 pub mod AnswerLaws
+pub mod VerdictLaws
+pub mod VerdictsExact
+-- Demand 3 of the answers
+pub mod StayTrue

@@ -1,35 +1,16 @@
-// Asks questions 1, 2 and 6 of the recordings in the text on standard input, and writes the answers. Question 2 is asked of 0 to 9 and,
-// where there are more than nine events, of 511 to 513 and 65535.
-// A line that begins with '=' is a title, an empty line ends a recording, and every other line has some of its bytes (text.rt).
-mod text;
+// Asks all six questions of the recordings in the text on standard input, and writes the answers.
+// A line that begins with '=' is a title, and a recording begins; an empty line asks for the judgement, the observed writes (of 0 to 9 and,
+// where there are more than nine events, of 511 to 513 and 65535), the note and the races; a line that begins with '?' asks question 3, 4 or 5
+// of two numbers (ask.rt); every other line has some of the recording's bytes.
+mod ask;
 
-use libc::STDOUT_FILENO;
-use limits::EventNumber;
-use limits::Refusal;
 use questions::Judgement;
 use questions::Observed;
+use text::number;
+use text::refused;
+use text::word;
 ghost use Prim.Native.Nat.{_≤_};
 ghost use lib.ListN.{length};
-
-fn word(text: &[u8]) {
-    io::write_all(STDOUT_FILENO, text);
-}
-
-fn number(n: u64) {
-    io::print_decimal(STDOUT_FILENO, n);
-}
-
-fn refused(r: Refusal) {
-    word(b"refused ");
-    number(r.number() as u64);
-    match r.event() {
-        EventNumber::Absent => {}
-        EventNumber::At(k) => {
-            word(b" at ");
-            number(k as u64);
-        }
-    }
-}
 
 // Question 1. Says whether there are more than nine events.
 fn judged(file: &[u8]) -> bool {
@@ -102,6 +83,7 @@ fn answers(file: &[u8]) {
         word(b"\n");
     }
     noted(file);
+    ask::races(file);
 }
 
 // Reads a line where n bytes of a recording are there already; gives how many are there then.
@@ -111,11 +93,15 @@ fn take_line(line: &[u8], file: &mut [u8], n: usize) -> usize
 {
     if line.len() == 0 {
         answers(&file[0..n]);
-        return 0;
+        return n;
     }
     if line[0] == b'=' {
         word(&line[1..]);
         word(b"\n");
+        return 0;
+    }
+    if line[0] == b'?' {
+        ask::asked(&line[1..], &file[0..n]);
         return n;
     }
     text::put_line(line, file, n)

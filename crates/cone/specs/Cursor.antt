@@ -1,0 +1,64 @@
+-- The way to the flags: a cursor goes from the last event down, and up again to each release that is new.
+use Prim.Native.Nat.{ℕ, _+_, _*_, _≤_, _<_}
+use mathlib.Core.Path.{_≡_}
+use mathlib.Core.Bool.{false, cond}
+use mathlib.Core.List.{List, [], _∷_}
+use lib.ListN.{length, getD}
+use lib.Dec.{eqb}
+use Rattle.model.specs.Trace.{Trace, Valid}
+use Rattle.model.specs.Cone.{InCone}
+use Rattle.model.specs.Rounds.{isExempt}
+use Rattle.links.specs.Links.{previous, observedBy, releaseOf}
+
+-- all that event k brings in is flagged
+pub record Brought (t : Trace) (R flags : List ℕ) (k : ℕ) : Type 0 where
+  pub earlier : getD flags (previous t k) 0 ≡ 1
+  pub seen : getD flags (observedBy t k) 0 ≡ 1
+  pub closing : isExempt t R k ≡ false → getD flags (releaseOf t k) 0 ≡ 1
+
+-- only events of the cone are flagged
+pub record Sound (t : Trace) (R flags : List ℕ) : Type 0 where
+  pub room : length t < length flags
+  pub sound : (k : ℕ) → Valid t k → getD flags k 0 ≡ 1 → InCone t R k
+
+-- Each flagged event above k has brought in its own. Place 0 is flagged: it stands for no event.
+pub record Closing (t : Trace) (R : List ℕ) (k : ℕ) (flags : List ℕ) : Type 0 where
+  pub high : k ≤ length t
+  pub cone : Sound t R flags
+  pub zero : getD flags 0 0 ≡ 1
+  pub rooted : (n : ℕ) → n < length R → getD flags (previous t (getD R n 0)) 0 ≡ 1
+  pub closed : (j : ℕ) → k < j → j ≤ length t → getD flags j 0 ≡ 1 → Brought t R flags j
+
+-- the places that are not 1
+unfoldable pub unflagged : List ℕ → ℕ
+unflagged [] = 0
+unflagged (x ∷ l) = cond (eqb x 1) 0 1 + unflagged l
+
+-- what is left to do with the cursor at k, of n events
+unfoldable pub weight : ℕ → ℕ → List ℕ → ℕ
+weight n k flags = unflagged flags * (n + 1) + k
+
+-- event k is done, and k′ is next
+pub record Moved (t : Trace) (R : List ℕ) (k k′ : ℕ) (flags flags′ : List ℕ) : Type 0 where
+  pub same : length flags′ ≡ length flags
+  pub closing : Closing t R k′ flags′
+  pub falls : weight (length t) k′ flags′ < weight (length t) k flags
+
+-- ---- the start: the event before each root is flagged
+
+-- only place 0 is flagged
+pub record Clear (flags : List ℕ) : Type 0 where
+  pub zero : getD flags 0 0 ≡ 1
+  pub clear : (k : ℕ) → 1 ≤ k → k < length flags → getD flags k 0 ≡ 0
+
+-- the places that prev has for the roots are there
+pub record Seeds (prev R flags : List ℕ) : Type 0 where
+  pub low : (i : ℕ) → i < length R → getD R i 0 < length prev
+  pub lower : (i : ℕ) → i < length R → getD prev (getD R i 0) 0 < length flags
+
+-- those of the first i roots are flagged, and beside place 0 only such
+pub record Seeded (prev R start : List ℕ) (i : ℕ) (flags : List ℕ) : Type 0 where
+  pub long : length flags ≡ length start
+  pub zero : getD flags 0 0 ≡ 1
+  pub made : (n : ℕ) → n < i → getD flags (getD prev (getD R n 0) 0) 0 ≡ 1
+  pub only : (j : ℕ) → 1 ≤ j → j < length flags → getD flags j 0 ≡ 1 → (n : ℕ) × (n < length R) × (j ≡ getD prev (getD R n 0) 0)

@@ -1,0 +1,3 @@
+-- The causal cone as flags, and the way to them
+pub mod Flags
+pub mod Cursor

@@ -1,0 +1,39 @@
+use Prim.Native.Nat.{_+_, _-_}
+use lib.ListN.{length}
+use borrow.Author.Needs.{needs}
+use Rattle.model.specs.Good.{maxThread}
+use Rattle.format.specs.Bytes.{trace}
+use Rattle.links.specs.Links.{previous}
+use Rattle.links.proofs.PassLaws.{Forward, byThread, forward-start, forward-valid, forward-thread, forward-place, previous-more, pass-length, previous-end}
+use Rattle.links.proofs.previous_links.Statement.{statement}
+use Rattle.links.proofs.previous_links.Tie as tie
+
+abbrev Inv-loop : tie.InvT-loop
+Inv-loop ev out₀ n last₀ k₀ out last k = Forward (trace ev) (byThread (trace ev)) (previous (trace ev)) maxThread (length out₀) n k last out
+
+abbrev μ-loop : tie.MeasureT-loop
+μ-loop ev out₀ n last₀ k₀ out last k = n + 1 - k
+
+pub previous-links-spec : {M : Type 1} → statement M
+previous-links-spec =
+    tie.close
+    (tie.spec
+    Inv-loop
+    μ-loop
+    (λ c κs. search needs)
+    (λ c. search needs)
+    (λ c. search (forward-start, needs))
+    (λ c κs. search (forward-valid, needs))
+    (λ c. search needs)
+    (λ c. search needs)
+    (λ c. search (forward-thread, needs))
+    (λ c. search needs)
+    (λ c. search (forward-place, needs))
+    (λ c. search needs)
+    (λ c. search needs)
+    (λ c. search (forward-thread, needs))
+    (λ c. search needs)
+    (λ c. search needs)
+    (λ c. search (previous-more, needs))
+    (λ c. search (pass-length, needs))
+    (λ c. search (previous-end, needs)))

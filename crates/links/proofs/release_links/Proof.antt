@@ -1,0 +1,29 @@
+use lib.ListN.{length}
+use borrow.Author.Needs.{needs}
+use Rattle.format.specs.Bytes.{trace}
+use Rattle.links.proofs.PassLaws.{pass-length, pass-ready}
+use Rattle.links.proofs.ReleaseLaws.{Backward, backward-start, backward-valid, backward-more, backward-end}
+use Rattle.links.proofs.release_links.Statement.{statement}
+use Rattle.links.proofs.release_links.Tie as tie
+
+abbrev Inv-loop : tie.InvT-loop
+Inv-loop ev out₀ next₀ k₀ out next k = Backward (trace ev) (length out₀) k next out
+
+abbrev μ-loop : tie.MeasureT-loop
+μ-loop ev out₀ next₀ k₀ out next k = k
+
+pub release-links-spec : {M : Type 1} → statement M
+release-links-spec =
+    tie.close
+    (tie.spec
+    Inv-loop
+    μ-loop
+    (λ c. search needs)
+    (λ c κs. search needs)
+    (λ c. search (backward-start, needs))
+    (λ c κs. search (pass-ready, backward-valid, needs))
+    (λ c. search needs)
+    (λ c. search needs)
+    (λ c. search (backward-more, needs))
+    (λ c. search (pass-length, needs))
+    (λ c. search (backward-end, needs)))

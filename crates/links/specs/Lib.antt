@@ -1,0 +1,3 @@
+-- The links of an event.
+pub mod Links
+pub mod Step

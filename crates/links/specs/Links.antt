@@ -1,0 +1,45 @@
+-- What each event is linked to, and tables of these links.
+use Prim.Native.Nat.{ℕ, _≤_, _<_}
+use mathlib.Core.Path.{_≡_}
+use mathlib.Core.Bool.{cond}
+use mathlib.Core.List.{List}
+use lib.ListN.{length, getD}
+use lib.Dec.{eqb}
+use Rattle.model.specs.Trace.{Trace, read, acquire, threadOf, kindOf}
+use Rattle.model.specs.Lists.{before, nearest, is}
+use Rattle.model.specs.Observed.{observed}
+use Rattle.model.specs.Good.{Good}
+use Rattle.model.specs.Cone.{matching}
+
+-- the event before k in its thread; 0 where there is none
+unfoldable pub previous : Trace → ℕ → ℕ
+previous t k = nearest (λ j. is (threadOf t k) (threadOf t j)) (before k)
+
+-- the observed write of a read; 0 where it sees the start, and for every other event
+unfoldable pub observedBy : Trace → ℕ → ℕ
+observedBy t k = cond (eqb (kindOf t k) read) (observed t k) 0
+
+-- the matching release of an acquire; 0 where there is none, and for every other event
+unfoldable pub releaseOf : Trace → ℕ → ℕ
+releaseOf t k = cond (eqb (kindOf t k) acquire) (matching t k) 0
+
+-- a list has f k at each place k from 0 to n
+pub record Table (f : ℕ → ℕ) (n : ℕ) (l : List ℕ) : Type 0 where
+  pub long : n < length l
+  pub is : (k : ℕ) → k ≤ n → getD l k 0 ≡ f k
+
+-- the links of a trace's events
+pub record Linked (t : Trace) (prev obs rel : List ℕ) : Type 0 where
+  pub earlier : Table (previous t) (length t) prev
+  pub seen : Table (observedBy t) (length t) obs
+  pub closing : Table (releaseOf t) (length t) rel
+
+-- a good trace, and room for a table of its links, or for all three
+pub record Room (t : Trace) (out : List ℕ) : Type 0 where
+  pub good : Good t
+  pub long : length t < length out
+
+pub record Rooms (t : Trace) (prev obs rel : List ℕ) : Type 0 where
+  pub earlier : Room t prev
+  pub seen : Room t obs
+  pub closing : Room t rel

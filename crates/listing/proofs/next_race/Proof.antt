@@ -1,0 +1,35 @@
+use Prim.Native.Nat.{_+_, _-_}
+use Rattle.format.specs.Bytes.{trace}
+use borrow.Author.Needs.{needs}
+use Rattle.listing.proofs.LoopLaws.{Walking, walking-start, lower-fits, walking-ready, race-found, next-fits, walking-on, no-more}
+use Rattle.listing.proofs.next_race.Statement.{statement}
+use Rattle.listing.proofs.next_race.Tie as tie
+
+abbrev Inv-loop : tie.InvT-loop
+Inv-loop ev previous observed released a b list₀ area₀ n x₀ after₀ list area x after = Walking (trace ev) a b previous observed released list₀ area₀ list area x after
+
+abbrev μ-loop : tie.MeasureT-loop
+μ-loop ev previous observed released a b list₀ area₀ n x₀ after₀ list area x after = n + 1 - x
+
+pub next-race-spec : {M : Type 1} → statement M
+next-race-spec =
+    tie.close
+    (tie.spec
+    Inv-loop
+    μ-loop
+    (λ c κs. search needs)
+    (λ c. search (walking-start, needs))
+    (λ c. search (lower-fits, needs))
+    (λ c κs. search (walking-ready, needs))
+    (λ c. search needs)
+    (λ c. search needs)
+    (λ c. search needs)
+    (λ c. search needs)
+    (λ c. search (race-found, needs))
+    (λ c. search needs)
+    (λ c. search (next-fits, needs))
+    (λ c. search needs)
+    (λ c. search (walking-on, needs))
+    (λ c. search needs)
+    (λ c. search needs)
+    (λ c. search (no-more, needs)))

@@ -1,0 +1,2 @@
+-- The next race, handed out with its witness.
+pub mod Listed

@@ -1,0 +1,132 @@
+// A pair of events: is it conflicting, and which witness is shown for it.
+use limits::Event;
+use limits::Trace;
+ghost use mathlib.Core.Path.{_≡_};
+ghost use Rattle.model.specs.Decision.{witness, isConflicting};
+ghost use Rattle.format.specs.Bytes.{trace};
+ghost use Rattle.bits.specs.Marks.{Clear};
+ghost use Rattle.merge.specs.Places.{Given};
+ghost use Rattle.pair.specs.Pair.{Lower, accesses, pathOf, Searching, searchOf, Asked, Shows};
+
+// A place for each event, and for event 0.
+const PLACES: usize = Trace::MAX_EVENTS + 1;
+
+// The witness of a pair: none, or how long it is.
+pub enum Shown {
+    Absent,
+    Length(u16),
+}
+
+// Are events of these kinds accesses, at least one a write?
+fn accesses(c: u8, d: u8) -> bool
+    ensures { λ r. ⌜ r ≡ accesses c d ⌝ }
+{
+    if c == Event::WRITE {
+        if d == Event::READ {
+            return true;
+        }
+        return d == Event::WRITE;
+    }
+    if c == Event::READ {
+        return d == Event::WRITE;
+    }
+    false
+}
+
+fn conflicting_in(ev: &[u8], a: usize, b: usize) -> bool
+    requires { ⌜ Lower (trace (now ev)) a b ⌝ }
+    ensures { λ r. ⌜ r ≡ isConflicting (trace (now (ev .entry))) a b ⌝ }
+{
+    if format::object_at(ev, a) != format::object_at(ev, b) {
+        return false;
+    }
+    if format::thread_at(ev, a) == format::thread_at(ev, b) {
+        return false;
+    }
+    accesses(format::kind_at(ev, a), format::kind_at(ev, b))
+}
+
+// Are a and b a conflicting pair? Any two numbers may be asked.
+pub fn conflicting(ev: &[u8], a: u16, b: u16) -> bool
+    ensures { λ r. ⌜ r ≡ isConflicting (trace (now (ev .entry))) a b ⌝ }
+{
+    let lower = a as usize;
+    let higher = b as usize;
+    if lower < 1 {
+        return false;
+    }
+    if higher <= lower {
+        return false;
+    }
+    if format::count(ev) < higher {
+        return false;
+    }
+    conflicting_in(ev, lower, higher)
+}
+
+// The path through the events p, of the moved thread m, and q, the others'.
+fn find(
+    ev: &[u8],
+    observed: &[u16],
+    p: &[u16],
+    q: &[u16],
+    m: u8,
+    list: &mut [u16],
+    area: &mut [u8],
+) -> Shown
+    requires { ⌜ Given (trace (now ev)) (now observed) (now p) (now q) (now area) (now list) × Clear (now area) ⌝ }
+    ensures { λ r. ⌜ Shows (pathOf (trace (now (ev .entry))) m (now (p .entry)) (now (q .entry))) (now (list .entry)) (now (list .exit)) (now (area .entry)) (now (area .exit)) r ⌝ }
+{
+    if merge::find(ev, observed, p, q, m, area, list) {
+        return Shown::Length((p.len() + q.len()) as u16);
+    }
+    Shown::Absent
+}
+
+// The search through the cone that is flagged: the events of thread m, which is moved, among the others.
+fn search(
+    ev: &[u8],
+    observed: &[u16],
+    flags: &[u8],
+    m: u8,
+    list: &mut [u16],
+    area: &mut [u8],
+) -> Shown
+    requires { ⌜ Searching (trace (now ev)) (now observed) (now flags) (now list) (now area) ⌝ }
+    ensures { λ r. ⌜ Shows (searchOf (trace (now (ev .entry))) m (now (flags .entry))) (now (list .entry)) (now (list .exit)) (now (area .entry)) (now (area .exit)) r ⌝ }
+{
+    let mut moved = [0u16; Trace::MAX_EVENTS];
+    let p = cone::pick(ev, flags, m, true, &mut moved);
+    let mut others = [0u16; Trace::MAX_EVENTS];
+    let q = cone::pick(ev, flags, m, false, &mut others);
+    find(ev, observed, &moved[..p], &others[..q], m, list, area)
+}
+
+// The witness of a conflicting pair, in the front of the lent list. No pair is reported with a or b in its cone.
+pub fn witness(
+    ev: &[u8],
+    previous: &[u16],
+    observed: &[u16],
+    released: &[u16],
+    a: u16,
+    b: u16,
+    list: &mut [u16],
+    area: &mut [u8],
+) -> Shown
+    requires { ⌜ Asked (trace (now ev)) a b (now previous) (now observed) (now released) (now list) (now area) ⌝ }
+    ensures { λ r. ⌜ Shows (witness (trace (now (ev .entry))) a b) (now (list .entry)) (now (list .exit)) (now (area .entry)) (now (area .exit)) r ⌝ }
+{
+    let lower = a as usize;
+    let higher = b as usize;
+    let roots = [a, b];
+    let mut flags = [0u8; PLACES];
+    cone::cone_flags(ev, previous, observed, released, &roots, &mut flags);
+    if flags[lower] == 1 {
+        return Shown::Absent;
+    }
+    if flags[higher] == 1 {
+        return Shown::Absent;
+    }
+    let m = format::thread_at(ev, lower);
+    search(ev, observed, &flags, m, list, area)
+}

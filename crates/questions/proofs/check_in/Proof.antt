@@ -1,0 +1,20 @@
+use borrow.Author.Needs.{needs}
+use Rattle.questions.proofs.VerdictLaws.{check-refused, tables-room, check-asked, check-clean, check-fault}
+use Rattle.questions.proofs.check_in.Statement.{statement}
+use Rattle.questions.proofs.check_in.Tie as tie
+
+pub check-in-spec : {M : Type 1} → statement M
+check-in-spec =
+    tie.close
+    (tie.spec
+    (λ c κs. search needs)
+    (λ c. search (check-refused, needs))
+    (λ c. search needs)
+    (λ c. search needs)
+    (λ c. search needs)
+    (λ c κs. search (tables-room, needs))
+    (λ c. search needs)
+    (λ c. search needs)
+    (λ c κs. search (check-asked, needs))
+    (λ c. search (check-clean, needs))
+    (λ c. search (check-fault, needs)))

@@ -1,0 +1,25 @@
+use borrow.Author.Needs.{needs}
+use Rattle.questions.proofs.VerdictLaws.{tables-room, listing-ready, none-handed, one-handed}
+use Rattle.questions.proofs.find_next.Statement.{statement}
+use Rattle.questions.proofs.find_next.Tie as tie
+
+pub find-next-spec : {M : Type 1} → statement M
+find-next-spec =
+    tie.close
+    (tie.spec
+    (λ c κs. search needs)
+    (λ c. search needs)
+    (λ c. search needs)
+    (λ c. search needs)
+    (λ c κs. search (tables-room, needs))
+    (λ c. search needs)
+    (λ c. search needs)
+    (λ c. search needs)
+    (λ c. search needs)
+    (λ c κs. search (listing-ready, needs))
+    (λ c. search needs)
+    (λ c. search needs)
+    (λ c. search needs)
+    (λ c. search (none-handed, needs))
+    (λ c. search needs)
+    (λ c. search (one-handed, needs)))

@@ -1,0 +1,17 @@
+use borrow.Author.Needs.{needs}
+use Rattle.questions.proofs.VerdictLaws.{area-refused, area-long, front-bytes, pair-decidable, pair-decided}
+use Rattle.questions.proofs.verdict_with.Statement.{statement}
+use Rattle.questions.proofs.verdict_with.Tie as tie
+
+pub verdict-with-spec : {M : Type 1} → statement M
+verdict-with-spec =
+    tie.close
+    (tie.spec
+    (λ c κs. search needs)
+    (λ c. search (area-refused, needs))
+    (λ c. search (area-long, needs))
+    (λ c. search (front-bytes, area-long, needs))
+    (λ c κs. search (pair-decidable, needs))
+    (λ c. search needs)
+    (λ c. search needs)
+    (λ c. search (pair-decided, needs)))

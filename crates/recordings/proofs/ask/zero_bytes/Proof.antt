@@ -1,0 +1,34 @@
+use Prim.Native.Nat.{_≤_, _-_}
+use lib.ListN.{length}
+use borrow.Author.Needs.{needs}
+use Rattle.recordings.proofs.ask.zero_bytes.Statement.{statement}
+use Rattle.recordings.proofs.ask.zero_bytes.Tie as tie
+
+abbrev Inv-loop : tie.InvT-loop
+Inv-loop area n₀ i₀ n i = (n ≤ i) × (i ≤ length area)
+
+abbrev μ-loop : tie.MeasureT-loop
+μ-loop area n₀ i₀ n i = length area - i
+
+-- src/ask.rt:45:5
+-- src/ask.rt:46:18
+-- src/ask.rt:46:14
+-- src/ask.rt:46:9
+-- src/ask.rt:47:9
+-- src/ask.rt:45:5
+-- src/ask.rt:45:5
+-- src/ask.rt:42:1
+pub zero-bytes-spec : {M : Type 1} → statement M
+zero-bytes-spec =
+    tie.close
+    (tie.spec
+    Inv-loop
+    μ-loop
+    (λ c. search needs)
+    (λ c. search needs)
+    (λ c κs. search needs)
+    (λ c. search needs)
+    (λ c. search needs)
+    (λ c. search needs)
+    (λ c. search needs)
+    (λ c. search needs))

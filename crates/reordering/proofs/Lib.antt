@@ -1,0 +1,4 @@
+pub mod NextLaws
+pub mod PlaceLaws
+pub mod PassLaws
+pub mod CheckLaws

@@ -1,0 +1,21 @@
+use borrow.Author.Needs.{needs}
+use Rattle.reordering.proofs.PlaceLaws.{sees-same, sees-other, lock-free, lock-taken, no-access}
+use Rattle.reordering.proofs.access_fault.Statement.{statement}
+use Rattle.reordering.proofs.access_fault.Tie as tie
+
+pub access-fault-spec : {M : Type 1} → statement M
+access-fault-spec =
+    tie.close
+    (tie.spec
+    (λ c κs. search needs)
+    (λ c κs. search needs)
+    (λ c. search needs)
+    (λ c. search needs)
+    (λ c. search needs)
+    (λ c. search needs)
+    (λ c. search (sees-same, needs))
+    (λ c. search (sees-other, needs))
+    (λ c. search needs)
+    (λ c. search (lock-free, needs))
+    (λ c. search (lock-taken, needs))
+    (λ c. search (no-access, needs)))

@@ -1,0 +1,24 @@
+use borrow.Author.Needs.{needs}
+use Rattle.reordering.proofs.PassLaws.{pass-write, pass-acquire, pass-release, pass-other}
+use Rattle.reordering.proofs.pass.Statement.{statement}
+use Rattle.reordering.proofs.pass.Tie as tie
+
+pub pass-spec : {M : Type 1} → statement M
+pass-spec =
+    tie.close
+    (tie.spec
+    (λ c κs. search needs)
+    (λ c κs. search needs)
+    (λ c κs. search needs)
+    (λ c. search needs)
+    (λ c. search needs)
+    (λ c. search needs)
+    (λ c. search needs)
+    (λ c. search (pass-write, needs))
+    (λ c. search needs)
+    (λ c. search needs)
+    (λ c. search needs)
+    (λ c. search (pass-acquire, needs))
+    (λ c. search needs)
+    (λ c. search (pass-release, needs))
+    (λ c. search (pass-other, needs)))

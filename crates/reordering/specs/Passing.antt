@@ -1,0 +1,73 @@
+-- What the pass over a proposed list keeps of the events that have been passed, and what its parts answer.
+use Prim.Native.Nat.{ℕ}
+use mathlib.Core.Path.{_≡_}
+use mathlib.Core.Logic.{_≢_}
+use mathlib.Core.Bool.{Bool, true, false}
+use mathlib.Core.List.{List, _∷_, reverse}
+use lib.ListN.{length}
+use Rattle.model.specs.Trace.{Trace, Valid, threadOf}
+use Rattle.model.specs.Lists.{nearest, is}
+use Rattle.model.specs.Observed.{lastWrite}
+use Rattle.model.specs.Good.{Good, maxThread, maxObject, holder}
+use Rattle.model.specs.Reordering.{Enabled, Step, Correct}
+use Rattle.model.specs.Check.{PlaceFault}
+use Rattle.links.specs.Links.{previous, observedBy, Table}
+
+-- ---- what is asked of a caller
+
+-- an event of a good trace
+pub record Here (t : Trace) (k : ℕ) : Type 0 where
+  pub good : Good t
+  pub valid : Valid t k
+
+-- for each event the one before it in its thread; for each read its observed write
+abbrev pub Previous : Trace → List ℕ → Type 0
+Previous t l = Table (previous t) (length t) l
+
+abbrev pub Observed : Trace → List ℕ → Type 0
+Observed t l = Table (observedBy t) (length t) l
+
+-- a good trace, the links of its events, and two of them
+pub record Asked (t : Trace) (prev obs : List ℕ) (a b : ℕ) : Type 0 where
+  pub good : Good t
+  pub earlier : Previous t prev
+  pub seen : Observed t obs
+  pub lower : Valid t a
+  pub higher : Valid t b
+
+-- ---- what is kept
+
+-- the last event of thread c in a history; 0 where there is none
+abbrev pub lastOf : Trace → List ℕ → ℕ → ℕ
+lastOf t h c = nearest (λ j. is c (threadOf t j)) h
+
+-- the tables are those of the history of a correct reordering
+pub record Knows (t : Trace) (h last writes locks : List ℕ) : Type 0 where
+  pub correct : Correct t (reverse h)
+  pub threads : Table (lastOf t h) maxThread last
+  pub cells : Table (λ x. lastWrite t x h) maxObject writes
+  pub holders : Table (λ x. holder t x h) maxObject locks
+
+-- ---- what the parts answer, by the tables, whatever the history that they are of
+
+-- is event k the next of its thread?
+pub record NextAnswer (t : Trace) (last : List ℕ) (k : ℕ) (r : Bool) : Type 0 where
+  pub yes-next : (h writes locks : List ℕ) → Knows t h last writes locks → r ≡ true → Enabled t h k
+  pub no-next : (h writes locks : List ℕ) → Knows t h last writes locks → r ≡ false → ¬ Enabled t h k
+
+-- r is the fault of event k after the history h, 0 for none
+pub record Judged (t : Trace) (h : List ℕ) (k r : ℕ) : Type 0 where
+  pub clean : r ≡ 0 → Step t h k
+  pub fault : r ≢ 0 → PlaceFault t h k r
+
+-- of an event that is the next of its thread
+pub record AccessAnswer (t : Trace) (writes locks : List ℕ) (k r : ℕ) : Type 0 where
+  pub judged : (h last : List ℕ) → Knows t h last writes locks → Enabled t h k → Judged t h k r
+
+-- of any number
+pub record PlaceAnswer (t : Trace) (last writes locks : List ℕ) (k r : ℕ) : Type 0 where
+  pub judged : (h : List ℕ) → Knows t h last writes locks → Judged t h k r
+
+-- event k goes into the tables
+pub record Passed (t : Trace) (k : ℕ) (last writes locks last′ writes′ locks′ : List ℕ) : Type 0 where
+  pub knows : (h : List ℕ) → Knows t h last writes locks → Step t h k → Knows t (k ∷ h) last′ writes′ locks′

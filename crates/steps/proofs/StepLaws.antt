@@ -1,0 +1,141 @@
+-- One law for each way through the step tests.
+use Prim.Native.Nat.{ℕ, _+_}
+use native.Mathlib.Omega.{arith}
+use native.Mathlib.Numerals.{add-one}
+use mathlib.Core.Path.{_≡_, sym, _∙_, ap}
+use mathlib.Core.Bool.{Bool, true, false, _&&_, not}
+use mathlib.Core.List.{List}
+use lib.ListN.{getD, drop}
+use lib.Dec.{eqb}
+use borrow.Author.Tests.{not-true, not-false, ne-eqb, lt-ltb}
+use Rattle.model.specs.Trace.{Trace, Valid, read, write, acquire, threadOf, kindOf, objectOf, does}
+use Rattle.model.specs.Lists.{listed, is, but}
+use Rattle.model.specs.Observed.{lastWrite, observed}
+use Rattle.model.specs.Good.{holder}
+use Rattle.model.specs.Check.{isSeen, isFree}
+use Rattle.model.specs.Grid.{sawOther, sawNone, pendingPass, readStep, writeStep, lockStep, mayStep, passed, stepAt}
+use Rattle.model.proofs.Tests.{does-true}
+use Rattle.model.proofs.Histories.{observed-range}
+use Rattle.model.proofs.GridSteps.{may-read, may-write, may-acquire}
+use Rattle.links.proofs.LinkFacts.{reads-observed}
+use Rattle.steps.specs.Steps.{Seen, Steps, fits}
+use Rattle.steps.proofs.ScanLaws.{valid-at}
+
+-- ---- what a read observed
+
+module _ {t : Trace} {obs : List ℕ} (table : Seen t obs) {k : ℕ} (v : Valid t k) where
+  pub seen-is : kindOf t k ≡ read → getD obs k 0 ≡ observed t k
+  seen-is r = table .is k (v .bounded) ∙ reads-observed t k r
+
+  module _ (r : kindOf t k ≡ read) (o : ℕ) (e : o ≡ getD obs k 0) where
+    is-observed : o ≡ observed t k
+    is-observed = e ∙ seen-is r
+
+    pub saw-start : (m : ℕ) (b : Bool) → o ≡ 0 → false ≡ sawOther t m b k
+    unfolding sawOther
+    saw-start m b z = rw (sym is-observed ∙ z)
+
+    module _ (ne : o ≡ 0 → ⊥) where
+      pub saw-valid : Valid t o
+      saw-valid =
+          let q = is-observed in
+          let w = observed-range t k (λ z. ne (q ∙ z)) in
+          let l = w .0 in
+          let h = w .1 in
+          let b = v .bounded in
+          record { positive = omega arith; bounded = omega arith }
+
+      module _ (m d : ℕ) (ed : d ≡ threadOf t o) where
+        pub saw-moved : (b : Bool) → b ≡ true → not (eqb d m) ≡ sawOther t m b k
+        unfolding sawOther is but
+        saw-moved b z = rw (z, ← is-observed, ne-eqb o 0 ne, ed)
+
+        pub saw-others : (b : Bool) → b ≡ false → eqb d m ≡ sawOther t m b k
+        unfolding sawOther is
+        saw-others b z = rw (z, ← is-observed, ne-eqb o 0 ne, ed)
+
+-- ---- a read that is left
+
+module _ (t : Trace) (x k : ℕ) (b : Bool) (d : b ≡ does t read x k) where
+  pub fits-any : (p : ℕ → Bool) → not b ≡ true → true ≡ fits t p x k
+  unfolding fits
+  fits-any p z = rw (← d, not-true b z)
+
+  fits-read : (p : ℕ → Bool) → not b ≡ false → fits t p x k ≡ p k
+  unfolding fits
+  fits-read p z = rw (← d, not-false b z)
+
+  pub read-kind : not b ≡ false → kindOf t k ≡ read
+  read-kind z = does-true t read x k (sym d ∙ not-false b z) .0
+
+  module _ (z : not b ≡ false) where
+    pub fits-side : (m : ℕ) (side : Bool) (r : Bool) → r ≡ sawOther t m side k → r ≡ fits t (sawOther t m side) x k
+    fits-side m side r g = g ∙ sym (fits-read (sawOther t m side) z)
+
+    pub fits-none : {obs : List ℕ} → Seen t obs → Valid t k → (h : List ℕ) (r : Bool) → r ≡ listed (getD obs k 0) h → not r ≡ fits t (sawNone t h) x k
+    unfolding sawNone
+    fits-none table v h r g =
+        ap not g ∙ ap (λ (o : ℕ). not (listed o h)) (seen-is table v (read-kind z)) ∙ sym (fits-read (sawNone t h) z)
+
+-- ---- the three tests
+
+module _ (t : Trace) (m : ℕ) (side : Bool) (ho : List ℕ) (k : ℕ) (b : Bool) (d : b ≡ sawOther t m side k) where
+  pub read-free : not b ≡ true → true ≡ readStep t m side ho k
+  unfolding readStep
+  read-free z = rw (← d, not-true b z)
+
+  pub read-last : not b ≡ false → {obs : List ℕ} → Seen t obs → Valid t k → kindOf t k ≡ read → (x : ℕ) → x ≡ objectOf t k → (r : ℕ) → r ≡ lastWrite t x ho
+      → eqb r (getD obs k 0) ≡ readStep t m side ho k
+  unfolding readStep isSeen
+  read-last z table v kind x ex r g = rw (← d, not-false b z, seen-is table v kind, g, ex)
+
+module _ (t : Trace) (m : ℕ) (side : Bool) (ho rs ro : List ℕ) (k x : ℕ) (ex : x ≡ objectOf t k) (b : Bool) (d : b ≡ pendingPass t x (sawOther t m (not side)) ro) where
+  is-write : b && pendingPass t x (sawNone t ho) rs ≡ writeStep t m side ho rs ro k
+  unfolding writeStep
+  is-write = rw (d, ex)
+
+  pub write-stops : not b ≡ true → false ≡ writeStep t m side ho rs ro k
+  write-stops z = rw (not-true b z) at is-write
+
+  pub write-goes : not b ≡ false → (r : Bool) → r ≡ pendingPass t x (sawNone t ho) rs → r ≡ writeStep t m side ho rs ro k
+  write-goes z r g = g ∙ (rw (not-false b z) at is-write)
+
+module _ (t : Trace) (hs ho : List ℕ) (k x : ℕ) (ex : x ≡ objectOf t k) (b : Bool) (d : b ≡ eqb (holder t x hs) 0) where
+  is-lock : b && eqb (holder t x ho) 0 ≡ lockStep t hs ho k
+  unfolding lockStep isFree
+  is-lock = rw (d, ex)
+
+  pub lock-stops : not b ≡ true → false ≡ lockStep t hs ho k
+  lock-stops z = rw (not-true b z) at is-lock
+
+  pub lock-goes : not b ≡ false → (r : Bool) → r ≡ eqb (holder t x ho) 0 → r ≡ lockStep t hs ho k
+  lock-goes z r g = g ∙ (rw (not-false b z) at is-lock)
+
+-- ---- may_step
+
+module _ {t : Trace} {obs own other : List ℕ} {i j : ℕ} (s : Steps t obs own other i j) (k : ℕ) (e : k ≡ getD own i 0) where
+  pub step-valid : Valid t k
+  step-valid = valid-at (s .own-valid) i k (s .own-in) e
+
+  step-is : (m : ℕ) (b : Bool) → mayStep t m b (passed own i) (passed other j) (drop (i + 1) own) (drop j other) k ≡ stepAt t m b own other i j
+  unfolding stepAt
+  step-is m b = rw (lt-ltb _ _ (s .own-in), e, add-one i)
+
+  module _ (kind : ℕ) (ek : kind ≡ kindOf t k) where
+    step-kind : (c : ℕ) → kind ≡ c → kindOf t k ≡ c
+    step-kind c h = sym ek ∙ h
+
+    module _ (m : ℕ) (b : Bool) where
+      pub step-read : kind ≡ read → (r : Bool) → r ≡ readStep t m b (passed other j) k → r ≡ stepAt t m b own other i j
+      step-read h r g = g ∙ sym (may-read t m b _ _ _ _ k (step-kind read h)) ∙ step-is m b
+
+      pub step-write : kind ≡ write → (r : Bool) → r ≡ writeStep t m b (passed other j) (drop (i + 1) own) (drop j other) k → r ≡ stepAt t m b own other i j
+      step-write h r g = g ∙ sym (may-write t m b _ _ _ _ k (step-kind write h)) ∙ step-is m b
+
+      pub step-lock : kind ≡ acquire → (r : Bool) → r ≡ lockStep t (passed own i) (passed other j) k → r ≡ stepAt t m b own other i j
+      step-lock h r g = g ∙ sym (may-acquire t m b _ _ _ _ k (step-kind acquire h)) ∙ step-is m b
+
+      pub step-none : (kind ≡ read → ⊥) → (kind ≡ write → ⊥) → (kind ≡ acquire → ⊥) → true ≡ stepAt t m b own other i j
+      unfolding mayStep
+      step-none f g h =
+          rw (ne-eqb (kindOf t k) read (λ z. f (ek ∙ z)), ne-eqb (kindOf t k) write (λ z. g (ek ∙ z)), ne-eqb (kindOf t k) acquire (λ z. h (ek ∙ z))) at (step-is m b)
