@@ -34,11 +34,12 @@ pub record Linked (t : Trace) (prev obs rel : List ℕ) : Type 0 where
   pub seen : Table (observedBy t) (length t) obs
   pub closing : Table (releaseOf t) (length t) rel
 
--- a good trace, and room for a table of its links, or for all three
+-- a good trace, and room for a table of its links
 pub record Room (t : Trace) (out : List ℕ) : Type 0 where
   pub good : Good t
   pub long : length t < length out
 
+-- room for all three tables
 pub record Rooms (t : Trace) (prev obs rel : List ℕ) : Type 0 where
   pub earlier : Room t prev
   pub seen : Room t obs

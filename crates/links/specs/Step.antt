@@ -8,7 +8,7 @@ use lib.Dec.{eqb}
 use Rattle.model.specs.Trace.{Trace, Valid, kindOf, objectOf}
 use Rattle.model.specs.Good.{Good}
 
--- an event of a good trace, a kind that asks and another that gives, and room for a table of links
+-- an event of a good trace, a kind that asks and a higher one that gives, and room for a table of links
 pub record Ready (t : Trace) (k asks gives : ℕ) (out : List ℕ) : Type 0 where
   pub good : Good t
   pub valid : Valid t k

@@ -42,7 +42,7 @@ pub fn observed_write(ev: &[u8], k: usize) -> usize
 }
 
 // The event before each in its thread: the last one of each thread, as the events pass.
-fn previous_links(ev: &[u8], out: &mut [u16])
+pub fn previous_links(ev: &[u8], out: &mut [u16])
     requires { ⌜ Room (trace (now ev)) (now out) ⌝ }
     ensures { λ _. ⌜ Table (previous (trace (now (ev .entry)))) (length (trace (now (ev .entry)))) (now (out .exit)) ⌝ }
 {
@@ -76,7 +76,7 @@ fn link_event(ev: &[u8], k: usize, asks: u8, gives: u8, table: &mut [u16; OBJECT
 }
 
 // The observed write of each read: the last write of each cell, as the events pass.
-fn observed_links(ev: &[u8], out: &mut [u16])
+pub fn observed_links(ev: &[u8], out: &mut [u16])
     requires { ⌜ Room (trace (now ev)) (now out) ⌝ }
     ensures { λ _. ⌜ Table (observedBy (trace (now (ev .entry)))) (length (trace (now (ev .entry)))) (now (out .exit)) ⌝ }
 {

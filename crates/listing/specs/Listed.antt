@@ -17,6 +17,7 @@ abbrev pub listed : Option Race → Listed
 listed none = NoMore
 listed (some x) = RaceOn (x .lower) (x .higher) (length (x .witness))
 
+-- its witness
 abbrev pub witnessIn : Option Race → Option (List ℕ)
 witnessIn none = none
 witnessIn (some x) = some (x .witness)
@@ -42,6 +43,7 @@ pub data FirstWith (t : Trace) (a b : ℕ) : Option Race → Type 0 where
   with-none : ((y : ℕ) → NoRaces t a b y) → FirstWith t a b none
   with-race : (y : ℕ) (ρ : List ℕ) → b < y → witnessOf t a y ≡ some ρ → NoRaces t a b y → FirstWith t a b (some (record { lower = a; higher = y; witness = ρ }))
 
+-- that race, handed out
 pub record HandsWith (t : Trace) (a b : ℕ) (list list′ area area′ : List ℕ) (r : Listed) : Type 0 where
   pub race : Option Race
   pub first : FirstWith t a b race

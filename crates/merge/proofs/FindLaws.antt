@@ -12,13 +12,13 @@ use Rattle.bits.proofs.MarkLaws.{clear-none}
 use Rattle.model.specs.Trace.{Trace}
 use Rattle.model.specs.Grid.{path}
 use Rattle.model.proofs.Tests.{clash}
-use Rattle.merge.specs.Places.{pathAt, cell, Sound, Given, Ready, Answer, Found}
+use Rattle.merge.specs.Places.{pathAt, state, Sound, Given, Ready, Answer, Found}
 
 -- ---- find_in
 
 clear-sound : (t : Trace) (m : ℕ) (p q area : List ℕ) → Clear area → Sound t m p q area
 unfolding Sound
-clear-sound t m p q area c i j hi hj b = clash b (clear-none area (cell q i j) c)
+clear-sound t m p q area c i j hi hj b = clash b (clear-none area (state q i j) c)
 
 path-start : (t : Trace) (m : ℕ) (p q : List ℕ) → path t m p q (length p + length q) 0 0 ≡ pathAt t m p q 0 0
 unfolding pathAt
@@ -42,9 +42,9 @@ take-zero zero k h = refl
 take-zero (suc n) zero h = absurd (omega arith)
 take-zero (suc n) (suc k) h = ap (λ (l : List ℕ). 0 ∷ l) (take-zero n k (omega arith))
 
-module _ {t : Trace} {obs p q area out : List ℕ} (g : Given t obs p q area out) (last : ℕ) (e : last ≡ cell q (length p) (length q)) where
+module _ {t : Trace} {obs p q area out : List ℕ} (g : Given t obs p q area out) (last : ℕ) (e : last ≡ state q (length p) (length q)) where
   used-in : last / 8 + 1 ≤ length area
-  used-in = let h = g .cells in omega arith
+  used-in = let h = g .states in omega arith
 
   pub used-front : last / 8 + 1 ≡ length (take (last / 8 + 1) area)
   used-front = sym (length-take-le (last / 8 + 1) area used-in)
@@ -52,7 +52,7 @@ module _ {t : Trace} {obs p q area out : List ℕ} (g : Given t obs p q area out
   pub used-given : Given t obs p q (take (last / 8 + 1) area) out
   used-given =
       let f : last / 8 + 1 ≡ length (take (last / 8 + 1) area) = used-front in
-      record { table = g .table; p-valid = g .p-valid; q-valid = g .q-valid; p-few = g .p-few; q-few = g .q-few; cells = omega arith; room = g .room }
+      record { table = g .table; p-valid = g .p-valid; q-valid = g .q-valid; p-few = g .p-few; q-few = g .q-few; states = omega arith; room = g .room }
 
   pub used-clear : Clear area → Clear (take (last / 8 + 1) area)
   unfolding Clear

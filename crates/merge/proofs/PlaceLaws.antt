@@ -20,7 +20,7 @@ use Rattle.model.specs.Trace.{Trace}
 use Rattle.model.specs.Good.{maxEvents}
 use Rattle.model.specs.Grid.{stepAt, after, orElse, path}
 use Rattle.steps.specs.Steps.{Steps}
-use Rattle.merge.specs.Places.{pathAt, viaEither, viaOthers, viaMoved, isSome, written, cell, Sound, Ready, Answer}
+use Rattle.merge.specs.Places.{pathAt, viaEither, viaOthers, viaMoved, isSome, written, state, Sound, Ready, Answer}
 
 -- ---- the path from a place
 
@@ -51,11 +51,11 @@ step-over t m b l o i j h = rw (le-ltb _ _ h)
 
 -- ---- the numbers of the places
 
-cell-in : (m i n j : ℕ) → i ≤ n → j ≤ m → i * (m + 1) + j ≤ n * (m + 1) + m
-cell-in m i n j hi hj = add-le-add (mul-le-mul-right (m + 1) hi) hj
+state-in : (m i n j : ℕ) → i ≤ n → j ≤ m → i * (m + 1) + j ≤ n * (m + 1) + m
+state-in m i n j hi hj = add-le-add (mul-le-mul-right (m + 1) hi) hj
 
-cell-same : (m i j i′ j′ : ℕ) → j ≤ m → j′ ≤ m → i * (m + 1) + j ≡ i′ * (m + 1) + j′ → (i ≡ i′) × (j ≡ j′)
-cell-same m i j i′ j′ h h′ e = (
+state-same : (m i j i′ j′ : ℕ) → j ≤ m → j′ ≤ m → i * (m + 1) + j ≡ i′ * (m + 1) + j′ → (i ≡ i′) × (j ≡ j′)
+state-same m i j i′ j′ h h′ e = (
   sym (digits-div i {m = m + 1} {r = j} (omega arith)) ∙ ap (λ (x : ℕ). x / (m + 1)) e ∙ digits-div i′ {m = m + 1} {r = j′} (omega arith),
   sym (digits-mod i {m = m + 1} {r = j} (omega arith)) ∙ ap (λ (x : ℕ). x % (m + 1)) e ∙ digits-mod i′ {m = m + 1} {r = j′} (omega arith),
 )
@@ -66,18 +66,18 @@ row-low n i hn hi = let a : i * (n + 1) ≤ maxEvents * (n + 1) = mul-le-mul-rig
 pub row-fits : (n i : ℕ) → n ≤ maxEvents → i ≤ maxEvents → Fits w64 (i * (n + 1))
 row-fits n i hn hi = let h : i * (n + 1) ≤ maxEvents * (maxEvents + 1) = row-low n i hn hi in omega arith
 
-pub cell-fits : (n i j : ℕ) → n ≤ maxEvents → i ≤ maxEvents → j ≤ n → Fits w64 (i * (n + 1) + j)
-cell-fits n i j hn hi hj = let h : i * (n + 1) ≤ maxEvents * (maxEvents + 1) = row-low n i hn hi in omega arith
+pub state-fits : (n i j : ℕ) → n ≤ maxEvents → i ≤ maxEvents → j ≤ n → Fits w64 (i * (n + 1) + j)
+state-fits n i j hn hi hj = let h : i * (n + 1) ≤ maxEvents * (maxEvents + 1) = row-low n i hn hi in omega arith
 
 -- a place with no path may be marked
-sound-mark : (t : Trace) (m : ℕ) (p q area : List ℕ) (i j : ℕ) → j ≤ length q → cell q i j < 8 * length area → Sound t m p q area → pathAt t m p q i j ≡ none
-    → Sound t m p q (marking area (cell q i j))
+sound-mark : (t : Trace) (m : ℕ) (p q area : List ℕ) (i j : ℕ) → j ≤ length q → state q i j < 8 * length area → Sound t m p q area → pathAt t m p q i j ≡ none
+    → Sound t m p q (marking area (state q i j))
 unfolding Sound
-sound-mark t m p q area i j hj h s e i′ j′ hi hj′ b = go (ℕ-discrete (cell q i′ j′) (cell q i j))
+sound-mark t m p q area i j hj h s e i′ j′ hi hj′ b = go (ℕ-discrete (state q i′ j′) (state q i j))
   where
-    go : Dec (cell q i′ j′ ≡ cell q i j) → pathAt t m p q i′ j′ ≡ none
-    go (yes same) = let w : (i′ ≡ i) × (j′ ≡ j) = cell-same (length q) i′ j′ i j hj′ hj same in rw (w .0, w .1) e
-    go (no other) = s i′ j′ hi hj′ (sym (marking-other area (cell q i j) (cell q i′ j′) h other) ∙ b)
+    go : Dec (state q i′ j′ ≡ state q i j) → pathAt t m p q i′ j′ ≡ none
+    go (yes same) = let w : (i′ ≡ i) × (j′ ≡ j) = state-same (length q) i′ j′ i j hj′ hj same in rw (w .0, w .1) e
+    go (no other) = s i′ j′ hi hj′ (sym (marking-other area (state q i j) (state q i′ j′) h other) ∙ b)
 
 -- ---- answers
 
@@ -114,14 +114,14 @@ module _ {t : Trace} {m : ℕ} {p q area₁ out out₁ : List ℕ} {at : ℕ} wh
 -- ---- the ways through
 
 module _ {t : Trace} {obs p q : List ℕ} {m i j : ℕ} {area out : List ℕ} (ready : Ready t obs p q m i j area out) where
-  in-range : cell q i j < 8 * length area
+  in-range : state q i j < 8 * length area
   in-range =
-      let c : cell q i j ≤ cell q (length p) (length q) = cell-in (length q) i (length p) j (ready .p-in) (ready .q-in) in
-      let g = ready .given .cells in
+      let c : state q i j ≤ state q (length p) (length q) = state-in (length q) i (length p) j (ready .p-in) (ready .q-in) in
+      let g = ready .given .states in
       omega arith
 
-  pub cell-low : (k : ℕ) → k ≡ cell q i j → (area₁ : List ℕ) → length area₁ ≡ length area → k < 8 * length area₁
-  cell-low k e area₁ l = let h : cell q i j < 8 * length area = in-range in omega arith
+  pub state-low : (k : ℕ) → k ≡ state q i j → (area₁ : List ℕ) → length area₁ ≡ length area → k < 8 * length area₁
+  state-low k e area₁ l = let h : state q i j < 8 * length area = in-range in omega arith
 
   nothing : {at : ℕ} {f : Option (List ℕ)} → f ≡ none → Answer t m p q at f area out out false
   nothing e = same-answer e (record { says = refl; wrote = refl; sound = ready .sound })
@@ -130,7 +130,7 @@ module _ {t : Trace} {obs p q : List ℕ} {m i j : ℕ} {area out : List ℕ} (r
   pub at-end : i + j ≡ length p + length q → Answer t m p q (i + j) (pathAt t m p q i j) area out out true
   at-end e = same-answer (path-end t m p q i j e) (record { says = refl; wrote = refl; sound = ready .sound })
 
-  pub dead : (b : Bool) (k : ℕ) → k ≡ cell q i j → b ≡ isMarked area k → b ≡ true → Answer t m p q (i + j) (pathAt t m p q i j) area out out false
+  pub dead : (b : Bool) (k : ℕ) → k ≡ state q i j → b ≡ isMarked area k → b ≡ true → Answer t m p q (i + j) (pathAt t m p q i j) area out out false
   unfolding Sound
   dead b k ek e w = nothing (ready .sound i j (ready .p-in) (ready .q-in) (sym (e ∙ ap (isMarked area) ek) ∙ w))
 
@@ -138,7 +138,7 @@ module _ {t : Trace} {obs p q : List ℕ} {m i j : ℕ} {area out : List ℕ} (r
   still-ready s la lo =
       let g = ready .given in
       record {
-        given = record { table = g .table; p-valid = g .p-valid; q-valid = g .q-valid; p-few = g .p-few; q-few = g .q-few; cells = omega arith; room = omega arith };
+        given = record { table = g .table; p-valid = g .p-valid; q-valid = g .q-valid; p-few = g .p-few; q-few = g .q-few; states = omega arith; room = omega arith };
         p-in = ready .p-in;
         q-in = ready .q-in;
         sound = s;
@@ -151,13 +151,13 @@ module _ {t : Trace} {obs p q : List ℕ} {m i j : ℕ} {area out : List ℕ} (r
     pub path-found : r ≡ true → Answer t m p q (i + j) (pathAt t m p q i j) area₁ out out₁ true
     path-found w = same-answer path-step (rw w at a)
 
-    pub path-none : r ≡ false → length area₁ ≡ length area → (k : ℕ) → k ≡ cell q i j → (area₂ : List ℕ) → area₂ ≡ marking area₁ k
+    pub path-none : r ≡ false → length area₁ ≡ length area → (k : ℕ) → k ≡ state q i j → (area₂ : List ℕ) → area₂ ≡ marking area₁ k
         → Answer t m p q (i + j) (pathAt t m p q i j) area₂ out out₁ false
     path-none w l k ek area₂ e =
         let b : Answer t m p q (i + j) (viaEither t m p q i j) area₁ out out₁ false = rw w at a in
         let n : pathAt t m p q i j ≡ none = path-step ∙ no-path (viaEither t m p q i j) (b .says) in
-        let h : cell q i j < 8 * length area = in-range in
-        let s : Sound t m p q (marking area₁ (cell q i j)) = sound-mark t m p q area₁ i j (ready .q-in) (omega arith) (b .sound) n in
+        let h : state q i j < 8 * length area = in-range in
+        let s : Sound t m p q (marking area₁ (state q i j)) = sound-mark t m p q area₁ i j (ready .q-in) (omega arith) (b .sound) n in
         same-answer n (record { says = refl; wrote = kept b; sound = rw (e, ek) s })
 
   -- try_both

@@ -39,12 +39,12 @@ written out at none = out
 written out at (some ρ) = sets out at ρ
 
 -- the number of a place
-abbrev pub cell : List ℕ → ℕ → ℕ → ℕ
-cell q i j = i * (length q + 1) + j
+abbrev pub state : List ℕ → ℕ → ℕ → ℕ
+state q i j = i * (length q + 1) + j
 
 -- from a marked place there is no path
 unfoldable pub Sound : Trace → ℕ → List ℕ → List ℕ → List ℕ → Type 0
-Sound t m p q area = (i j : ℕ) → i ≤ length p → j ≤ length q → isMarked area (cell q i j) ≡ true → pathAt t m p q i j ≡ none
+Sound t m p q area = (i j : ℕ) → i ≤ length p → j ≤ length q → isMarked area (state q i j) ≡ true → pathAt t m p q i j ≡ none
 
 -- the observed writes and the two lists, with a bit for each place and room for the path
 pub record Given (t : Trace) (obs p q area out : List ℕ) : Type 0 where
@@ -53,7 +53,7 @@ pub record Given (t : Trace) (obs p q area out : List ℕ) : Type 0 where
   pub q-valid : AllValid t q
   pub p-few : length p ≤ maxEvents
   pub q-few : length q ≤ maxEvents
-  pub cells : cell q (length p) (length q) < 8 * length area
+  pub states : state q (length p) (length q) < 8 * length area
   pub room : length p + length q ≤ length out
 
 -- a place of the grid, and an area whose marks hold

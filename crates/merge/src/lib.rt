@@ -11,7 +11,7 @@ ghost use Rattle.format.specs.Bytes.{trace};
 ghost use Rattle.merge.specs.Places.{pathAt, viaEither, viaOthers, viaMoved, Given, Ready, Answer, Found};
 
 // The number of the place (i, j), where n is the length of q.
-fn cell_at(n: usize, i: usize, j: usize) -> usize
+fn state_at(n: usize, i: usize, j: usize) -> usize
     requires { ⌜ (n ≤ maxEvents) × (i ≤ maxEvents) × (j ≤ n) ⌝ }
     ensures { λ r. ⌜ r ≡ i * (n + 1) + j ⌝ }
 {
@@ -27,8 +27,8 @@ fn explore(
     moved: u8,
     i: usize,
     j: usize,
-    area: &mut [u8],
     out: &mut [u16],
+    area: &mut [u8],
 ) -> bool
     requires { ⌜ Ready (trace (now ev)) (now observed) (now p) (now q) moved i j (now area) (now out) ⌝ }
     ensures { λ r. ⌜ Answer (trace (now (ev .entry))) moved (now (p .entry)) (now (q .entry)) (i + j) (pathAt (trace (now (ev .entry))) moved (now (p .entry)) (now (q .entry)) i j) (now (area .exit)) (now (out .entry)) (now (out .exit)) r ⌝ }
@@ -36,14 +36,14 @@ fn explore(
     if i + j == p.len() + q.len() {
         return true;
     }
-    let cell = cell_at(q.len(), i, j);
-    if bits::marked(area, cell) {
+    let state = state_at(q.len(), i, j);
+    if bits::marked(area, state) {
         return false;
     }
-    if try_both(ev, observed, p, q, moved, i, j, area, out) {
+    if try_both(ev, observed, p, q, moved, i, j, out, area) {
         return true;
     }
-    bits::mark(area, cell);
+    bits::mark(area, state);
     false
 }
 
@@ -56,16 +56,16 @@ fn try_both(
     moved: u8,
     i: usize,
     j: usize,
-    area: &mut [u8],
     out: &mut [u16],
+    area: &mut [u8],
 ) -> bool
     requires { ⌜ Ready (trace (now ev)) (now observed) (now p) (now q) moved i j (now area) (now out) ⌝ }
     ensures { λ r. ⌜ Answer (trace (now (ev .entry))) moved (now (p .entry)) (now (q .entry)) (i + j) (viaEither (trace (now (ev .entry))) moved (now (p .entry)) (now (q .entry)) i j) (now (area .exit)) (now (out .entry)) (now (out .exit)) r ⌝ }
 {
-    if try_others(ev, observed, p, q, moved, i, j, area, out) {
+    if try_others(ev, observed, p, q, moved, i, j, out, area) {
         return true;
     }
-    try_moved(ev, observed, p, q, moved, i, j, area, out)
+    try_moved(ev, observed, p, q, moved, i, j, out, area)
 }
 
 // By way of the others' event. It is written to the list on the way back.
@@ -77,8 +77,8 @@ fn try_others(
     moved: u8,
     i: usize,
     j: usize,
-    area: &mut [u8],
     out: &mut [u16],
+    area: &mut [u8],
 ) -> bool
     requires { ⌜ Ready (trace (now ev)) (now observed) (now p) (now q) moved i j (now area) (now out) ⌝ }
     ensures { λ r. ⌜ Answer (trace (now (ev .entry))) moved (now (p .entry)) (now (q .entry)) (i + j) (viaOthers (trace (now (ev .entry))) moved (now (p .entry)) (now (q .entry)) i j) (now (area .exit)) (now (out .entry)) (now (out .exit)) r ⌝ }
@@ -89,7 +89,7 @@ fn try_others(
     if !steps::may_step(ev, observed, q, j, p, i, moved, false) {
         return false;
     }
-    if explore(ev, observed, p, q, moved, i, j + 1, area, out) {
+    if explore(ev, observed, p, q, moved, i, j + 1, out, area) {
         out[i + j] = q[j];
         return true;
     }
@@ -105,8 +105,8 @@ fn try_moved(
     moved: u8,
     i: usize,
     j: usize,
-    area: &mut [u8],
     out: &mut [u16],
+    area: &mut [u8],
 ) -> bool
     requires { ⌜ Ready (trace (now ev)) (now observed) (now p) (now q) moved i j (now area) (now out) ⌝ }
     ensures { λ r. ⌜ Answer (trace (now (ev .entry))) moved (now (p .entry)) (now (q .entry)) (i + j) (viaMoved (trace (now (ev .entry))) moved (now (p .entry)) (now (q .entry)) i j) (now (area .exit)) (now (out .entry)) (now (out .exit)) r ⌝ }
@@ -117,7 +117,7 @@ fn try_moved(
     if !steps::may_step(ev, observed, p, i, q, j, moved, true) {
         return false;
     }
-    if explore(ev, observed, p, q, moved, i + 1, j, area, out) {
+    if explore(ev, observed, p, q, moved, i + 1, j, out, area) {
         out[i + j] = p[i];
         return true;
     }
@@ -131,13 +131,13 @@ fn find_in(
     p: &[u16],
     q: &[u16],
     moved: u8,
-    area: &mut [u8],
     out: &mut [u16],
+    area: &mut [u8],
 ) -> bool
     requires { ⌜ Given (trace (now ev)) (now observed) (now p) (now q) (now area) (now out) × Clear (now area) ⌝ }
     ensures { λ r. ⌜ Found (path (trace (now (ev .entry))) moved (now (p .entry)) (now (q .entry)) (length (now (p .entry)) + length (now (q .entry))) 0 0) (now (area .entry)) (now (area .exit)) (now (out .entry)) (now (out .exit)) r ⌝ }
 {
-    let found = explore(ev, observed, p, q, moved, 0, 0, area, out);
+    let found = explore(ev, observed, p, q, moved, 0, 0, out, area);
     bits::clear(area);
     found
 }
@@ -150,13 +150,13 @@ pub fn find(
     p: &[u16],
     q: &[u16],
     moved: u8,
-    area: &mut [u8],
     out: &mut [u16],
+    area: &mut [u8],
 ) -> bool
     requires { ⌜ Given (trace (now ev)) (now observed) (now p) (now q) (now area) (now out) × Clear (now area) ⌝ }
     ensures { λ r. ⌜ Found (path (trace (now (ev .entry))) moved (now (p .entry)) (now (q .entry)) (length (now (p .entry)) + length (now (q .entry))) 0 0) (now (area .entry)) (now (area .exit)) (now (out .entry)) (now (out .exit)) r ⌝ }
 {
-    let last = cell_at(q.len(), p.len(), q.len());
+    let last = state_at(q.len(), p.len(), q.len());
     let used = last / 8 + 1;
-    find_in(ev, observed, p, q, moved, &mut area[..used], out)
+    find_in(ev, observed, p, q, moved, out, &mut area[..used])
 }

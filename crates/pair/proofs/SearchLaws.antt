@@ -63,8 +63,8 @@ module _ (t : Trace) (m : ℕ) where
 -- ---- the search
 
 -- every place of the grid has its bit
-cells-fit : (p q n : ℕ) → p ≤ maxEvents → q ≤ maxEvents → areaBytes ≤ n → p * (q + 1) + q < 8 * n
-cells-fit p q n hp hq h =
+states-fit : (p q n : ℕ) → p ≤ maxEvents → q ≤ maxEvents → areaBytes ≤ n → p * (q + 1) + q < 8 * n
+states-fit p q n hp hq h =
     let r : q + 1 ≤ 513 = omega arith in
     let s : p * (q + 1) ≤ 512 * 513 = le-trans (mul-le-mul-right (q + 1) hp) (mul-le-mul-left 512 r) in
     omega arith
@@ -126,7 +126,7 @@ module _ {t : Trace} {obs flags list area : List ℕ} (s : Searching t obs flags
             q-valid = rw (y .is) (flagged-valid t m flags false);
             p-few = pf;
             q-few = qf;
-            cells = cells-fit (length (take p moved)) (length (take q others)) (length area) pf qf (s .long);
+            states = states-fit (length (take p moved)) (length (take q others)) (length area) pf qf (s .long);
             room = omega arith;
           }
 

@@ -35,10 +35,12 @@ accesses c d = (eqb c read || eqb c write) && ((eqb d read || eqb d write) && (e
 unfoldable pub inFront : List ℕ → List ℕ → List ℕ
 inFront ρ list = ρ ++ drop (length ρ) list
 
+-- the answer by the witness, if there is one: its length
 abbrev pub shown : Option (List ℕ) → Shown
 shown none = Absent
 shown (some ρ) = Length (length ρ)
 
+-- the lent list after it
 abbrev pub listWith : Option (List ℕ) → List ℕ → List ℕ
 listWith none list = list
 listWith (some ρ) list = inFront ρ list

@@ -33,6 +33,7 @@ fn accesses(c: u8, d: u8) -> bool
     false
 }
 
+// Are two events of the trace, lower first, a conflicting pair: of one cell, of different threads, both accesses, at least one a write?
 fn conflicting_in(ev: &[u8], a: usize, b: usize) -> bool
     requires { ⌜ Lower (trace (now ev)) a b ⌝ }
     ensures { λ r. ⌜ r ≡ isConflicting (trace (now (ev .entry))) a b ⌝ }
@@ -77,7 +78,7 @@ fn find(
     requires { ⌜ Given (trace (now ev)) (now observed) (now p) (now q) (now area) (now list) × Clear (now area) ⌝ }
     ensures { λ r. ⌜ Shows (pathOf (trace (now (ev .entry))) m (now (p .entry)) (now (q .entry))) (now (list .entry)) (now (list .exit)) (now (area .entry)) (now (area .exit)) r ⌝ }
 {
-    if merge::find(ev, observed, p, q, m, area, list) {
+    if merge::find(ev, observed, p, q, m, list, area) {
         return Shown::Length((p.len() + q.len()) as u16);
     }
     Shown::Absent

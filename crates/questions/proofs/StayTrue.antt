@@ -15,7 +15,7 @@ use Rattle.limits.specs.declared.Refusal.{Refusal}
 use Rattle.pair.specs.Pair.{inFront}
 use Rattle.questions.specs.Verdicts.{eventsOf, VerdictAsked, verdictBy, verdictIn, answerVerdict, check-yes, answerCheck}
 use Rattle.questions.specs.Deciding.{finding}
-use Rattle.questions.specs.AnswersStayTrue.{Extends, verdictOn, listAfter, NotRefused, SameAnswer, AnswersStayTrue}
+use Rattle.questions.specs.AnswersStayTrue.{Extends, verdictOn, listAfter, NotRefused, SameAnswer, DemandThree}
 use Rattle.questions.specs.declared.Finding.{Finding}
 use Rattle.questions.specs.declared.Finding.the-variants.{Refused, Reported}
 use Rattle.questions.specs.declared.Check.the-variants.{Yes}
@@ -96,5 +96,8 @@ module _ (s s′ : List ℕ) (ext : Extends s s′) (a b : ℕ) (list area list�
       rw (y .front) (check-reordering-exactly s′ a b (y .ρ) Yes .1
       (check-yes (ext .file) (extended-conflicting (eventsOf s) (eventsOf s′) (ext .extension) a b (q .conflicting)) (stays q .answer-stays (y .ρ) (y .is) .0)))
 
-  pub answers-stay-true : AnswersStayTrue s s′ a b list area list′ area′
-  answers-stay-true = record { two-threads = λ two n n′. same two (asked s a b list area n) (asked s′ a b list′ area′ n′); check-says-yes = yes }
+pub answers-stay-true : DemandThree
+answers-stay-true s s′ ext a b list area list′ area′ = record {
+  two-threads = λ two n n′. same s s′ ext a b list area list′ area′ two (asked s a b list area n) (asked s′ a b list′ area′ n′);
+  check-says-yes = yes s s′ ext a b list area list′ area′;
+}

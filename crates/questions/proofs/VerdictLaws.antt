@@ -216,9 +216,9 @@ module _ (t : Trace) (a b : ℕ) (list : List ℕ) (c : Bool) (ec : c ≡ isConf
       unfolding checkIn checkRefusal
       check-fault ne = rw (sym ec ∙ not-false c yes, ← en) (sym (no-with n ne))
 
--- room for tables of links
+-- room for a table of links, and for all three
+pub table-room : (t : Trace) → Good t → (l : List ℕ) → length l ≡ maxEvents + 1 → Room t l
+table-room t g l e = let s = g .size in record { good = g; long = omega arith }
+
 pub tables-room : (t : Trace) → Good t → (prev obs rel : List ℕ) → length prev ≡ maxEvents + 1 → length obs ≡ maxEvents + 1 → length rel ≡ maxEvents + 1 → Rooms t prev obs rel
-tables-room t g prev obs rel e f h = record { earlier = room prev e; seen = room obs f; closing = room rel h }
-  where
-    room : (l : List ℕ) → length l ≡ maxEvents + 1 → Room t l
-    room l e = let s = g .size in record { good = g; long = omega arith }
+tables-room t g prev obs rel e f h = record { earlier = table-room t g prev e; seen = table-room t g obs f; closing = table-room t g rel h }

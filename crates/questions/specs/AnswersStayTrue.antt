@@ -41,8 +41,13 @@ pub record SameAnswer (s s′ : List ℕ) (a b : ℕ) (list area list′ area′
   -- the same numbers in the same order
   pub same-numbers : (n : ℕ) → verdictOn s a b list area ≡ Reported n → take n (listAfter s′ a b list′ area′) ≡ take n (listAfter s a b list area)
 
+-- what is claimed of the two files, with any lent lists and work areas
 pub record AnswersStayTrue (s s′ : List ℕ) (a b : ℕ) (list area list′ area′ : List ℕ) : Type 0 where
   -- claimed where at most two threads have an event in s
   pub two-threads : TwoThreads (eventsOf s) → NotRefused (verdictOn s a b list area) → NotRefused (verdictOn s′ a b list′ area′) → SameAnswer s s′ a b list area list′ area′
   -- claimed for any number of threads: question 5 asked of s′ with the reordering that question 3 shows for s
   pub check-says-yes : (n : ℕ) → verdictOn s a b list area ≡ Reported n → answerCheck s′ a b (take n (listAfter s a b list area)) ≡ Yes
+
+-- demand 3, whole
+abbrev pub DemandThree : Type 0
+DemandThree = (s s′ : List ℕ) → Extends s s′ → (a b : ℕ) (list area list′ area′ : List ℕ) → AnswersStayTrue s s′ a b list area list′ area′

@@ -37,6 +37,7 @@ pub record Decidable (t : Trace) (a b : ℕ) (list area : List ℕ) : Type 0 whe
 unfoldable pub Zero : List ℕ → Type 0
 Zero area = area ≡ replicate areaBytes 0
 
+-- the answer to question 3 by the witness, if there is one
 abbrev pub finding : Option (List ℕ) → Finding
 finding none = NotReported
 finding (some ρ) = Reported (length ρ)
@@ -47,6 +48,7 @@ pub record Decides (o : Option (List ℕ)) (list list′ area′ : List ℕ) (r 
   pub wrote : list′ ≡ listWith o list
   pub zero : Zero area′
 
+-- the answer to question 4 by the race, if there is one
 abbrev pub next : Option Race → Next
 next none = NoRace
 next (some x) = RaceOn (x .lower) (x .higher)

@@ -200,14 +200,13 @@ fn check_in(ev: &[u8], a: u16, b: u16, list: &[u16]) -> Check
     requires { ⌜ Good (trace (now ev)) ⌝ }
     ensures { λ r. ⌜ r ≡ checkIn none (trace (now (ev .entry))) a b (now (list .entry)) ⌝ }
 {
-    let conflicting = pair::conflicting(ev, a, b);
-    if !conflicting {
+    if !pair::conflicting(ev, a, b) {
         return Check::Refused(Refusal::NotConflicting);
     }
     let mut previous = [0u16; LINKS];
+    links::previous_links(ev, &mut previous);
     let mut observed = [0u16; LINKS];
-    let mut released = [0u16; LINKS];
-    links::build(ev, &mut previous, &mut observed, &mut released);
+    links::observed_links(ev, &mut observed);
     let fault = reordering::check(ev, &previous, &observed, a, b, list);
     if fault == 0 {
         return Check::Yes;

@@ -2,6 +2,7 @@
 // A line is the question's number and two event numbers, and then: for question 3 how many entries the list has and how many bytes the
 // area; for question 4 the area's bytes; for question 5 the list.
 use limits::Refusal;
+use limits::Trace;
 use questions::Check;
 use questions::Finding;
 use questions::Next;
@@ -125,7 +126,7 @@ fn check(file: &[u8], a: u16, b: u16, l: &[u16]) {
 fn race(file: &[u8], a: u16, b: u16, area: &mut [u8]) {
     word(b"  race ");
     pair(a, b);
-    let mut l = [ENTRY; 512];
+    let mut l = [ENTRY; Trace::MAX_EVENTS];
     match questions::verdict(file, a, b, &mut l, area) {
         Finding::Refused(r) => {
             word(b" ");

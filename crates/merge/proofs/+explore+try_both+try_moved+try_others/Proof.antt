@@ -1,7 +1,7 @@
 use Prim.Native.Nat.{ℕ, _+_, _-_, _*_, _<_}
 use lib.ListN.{length}
 use borrow.Author.Needs.{needs}
-use Rattle.merge.proofs.PlaceLaws.{at-end, cell-low, dead, path-found, path-none, first-found, still-ready, second-tried, others-over, others-steps, others-stop, others-ready, others-found, others-none, moved-over, moved-steps, moved-stop, moved-ready, moved-found, moved-none}
+use Rattle.merge.proofs.PlaceLaws.{at-end, state-low, dead, path-found, path-none, first-found, still-ready, second-tried, others-over, others-steps, others-stop, others-ready, others-found, others-none, moved-over, moved-steps, moved-stop, moved-ready, moved-found, moved-none}
 use borrow.Fn.Kinds.{In}
 use borrow.Fn.PlainCycle.{Measures, is, falls, and}
 use Rattle.merge.proofs.explore.Reads as explore
@@ -15,7 +15,7 @@ use Rattle.merge.proofs.try_others.Reads as try-others
 use Rattle.merge.proofs.+explore+try_both+try_moved+try_others.Lts-try_others as try-others-lts
 use Rattle.bits.proofs.mark.Reads as mark-reads
 use Rattle.bits.proofs.marked.Reads as marked-reads
-use Rattle.merge.proofs.cell_at.Reads as cell-at-reads
+use Rattle.merge.proofs.state_at.Reads as state-at-reads
 use Rattle.steps.proofs.may_step.Reads as may-step-reads
 use Rattle.merge.proofs.+explore+try_both+try_moved+try_others.{statement}
 use Rattle.merge.proofs.+explore+try_both+try_moved+try_others.Tie.{close}
@@ -33,21 +33,21 @@ below c pre t = and 6 kinds.ps (falls 6 kinds.ps _<_ (μ c) t) pre
 pub +explore+try-both+try-moved+try-others-spec : {M : Type 1} → statement M
 +explore+try-both+try-moved+try-others-spec =
     close (μ 2) (μ 1) (μ 0) (μ 0) (λ t. explore-lts.spec
-    (cell-at-reads.Asked, cell-at-reads.Learnt, marked-reads.Asked, marked-reads.Learnt, below 1 try-both.Pre t, try-both.Post, mark-reads.Asked, mark-reads.Learnt)
+    (state-at-reads.Asked, state-at-reads.Learnt, marked-reads.Asked, marked-reads.Learnt, below 1 try-both.Pre t, try-both.Post, mark-reads.Asked, mark-reads.Learnt)
     (at 2 explore.Pre t)
     explore.Post
     (λ c. search needs)
     (λ c. search needs)
     (λ c. search (at-end, needs))
     (λ c κs. search needs)
-    (λ c κs. search (cell-low, needs))
+    (λ c κs. search (state-low, needs))
     (λ c. search needs)
     (λ c. search (dead, needs))
     (λ c κs. search needs)
     (λ c. search needs)
     (λ c. search needs)
     (λ c. search (path-found, needs))
-    (λ c κs. search (cell-low, needs))
+    (λ c κs. search (state-low, needs))
     (λ c. search needs)
     (λ c. search needs)
     (λ c. search (path-none, needs)))

@@ -1,5 +1,5 @@
 use borrow.Author.Needs.{needs}
-use Rattle.questions.proofs.VerdictLaws.{check-refused, tables-room, check-asked, check-clean, check-fault}
+use Rattle.questions.proofs.VerdictLaws.{check-refused, table-room, check-asked, check-clean, check-fault}
 use Rattle.questions.proofs.check_in.Statement.{statement}
 use Rattle.questions.proofs.check_in.Tie as tie
 
@@ -10,9 +10,9 @@ check-in-spec =
     (λ c κs. search needs)
     (λ c. search (check-refused, needs))
     (λ c. search needs)
+    (λ c κs. search needs)
     (λ c. search needs)
-    (λ c. search needs)
-    (λ c κs. search (tables-room, needs))
+    (λ c κs. search (table-room, needs))
     (λ c. search needs)
     (λ c. search needs)
     (λ c κs. search (check-asked, needs))
