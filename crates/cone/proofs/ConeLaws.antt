@@ -1,4 +1,4 @@
--- The cursor at the start and at the end: what the flags are then.
+-- The flags before the first sweep and after the last.
 use Prim.Native.Nat.{ℕ, zero, suc, _≤_, _<_}
 use native.Mathlib.Omega.{arith}
 use mathlib.Core.Path.{_≡_, refl, sym, _∙_}
@@ -14,7 +14,7 @@ use Rattle.model.proofs.Merges.{getD-mem}
 use Rattle.links.specs.Links.{previous, observedBy, releaseOf}
 use Rattle.links.proofs.LinkFacts.{previous-less, previous-earlier, previous-last, reads-observed, acquires-release}
 use Rattle.cone.specs.Flags.{Roots, Ready, ConeFlags}
-use Rattle.cone.specs.Cursor.{Closing, Brought, Seeds, Seeded}
+use Rattle.cone.specs.Sweep.{Closing, Brought, Seeds, Seeded}
 use Rattle.cone.proofs.ExemptLaws.{mem-place, root-valid}
 
 module _ {t : Trace} {prev obs rel R flags : List ℕ} (w : Ready t prev obs rel R flags) where
@@ -41,8 +41,7 @@ module _ {t : Trace} {prev obs rel R flags : List ℕ} (w : Ready t prev obs rel
         let h : length t < length g = let l = a .long in let y = w .room in omega arith in
         record {
           high = omega arith;
-          cone = record { room = h; sound = λ k u q. sound k u (a .only k (u .positive) (let b = u .bounded in omega arith) q) };
-          zero = a .zero;
+          cone = record { room = h; zero = a .zero; sound = λ k u q. sound k u (a .only k (u .positive) (let b = u .bounded in omega arith) q) };
           rooted = λ n l. rw (before-root n l) at (a .made n l);
           closed = λ j l b q. absurd (omega arith);
         }
@@ -55,9 +54,6 @@ module _ {t : Trace} {prev obs rel R flags : List ℕ} (w : Ready t prev obs rel
 
 pub follow-start : {t : Trace} {R l : List ℕ} → Closing t R (length t) l → (n : ℕ) → n ≡ length t → Closing t R n l
 follow-start c n e = rw (← e) at c
-
-pub valid-here : {t : Trace} {R : List ℕ} {k : ℕ} {f : List ℕ} → Closing t R k f → 0 < k → Valid t k
-valid-here c h = record { positive = h; bounded = c .high }
 
 module _ {t : Trace} {R f : List ℕ} {n : ℕ} (s : Closing t R n f) (n0 : n ≤ 0) (v : Roots t R) where
   -- where the event before k is flagged, so is each earlier one of its thread

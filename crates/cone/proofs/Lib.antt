@@ -1,6 +1,6 @@
 -- The ways through the code
 pub mod ExemptLaws
-pub mod CursorLaws
+pub mod SweepLaws
 pub mod StartLaws
 pub mod ConeLaws
 pub mod SplitLaws

@@ -8,8 +8,8 @@ use lib.Seq.{getD-set-same, getD-set-other}
 use lib.Dec.{eqb}
 use borrow.Author.Tests.{eqb-true, eqb-false}
 use Rattle.model.proofs.Tests.{by-cases}
-use Rattle.cone.specs.Cursor.{Clear, Seeds, Seeded}
-use Rattle.cone.proofs.CursorLaws.{flag-keep}
+use Rattle.cone.specs.Sweep.{Clear, Seeds, Seeded}
+use Rattle.cone.proofs.SweepLaws.{flag-keep}
 
 -- ---- all clear but place 0
 

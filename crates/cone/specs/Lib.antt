@@ -1,3 +1,4 @@
 -- The causal cone as flags, and the way to them
 pub mod Flags
-pub mod Cursor
+pub mod Sweep
+pub mod Picking

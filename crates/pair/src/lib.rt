@@ -96,11 +96,11 @@ fn search(
     requires { ⌜ Searching (trace (now ev)) (now observed) (now flags) (now list) (now area) ⌝ }
     ensures { λ r. ⌜ Shows (searchOf (trace (now (ev .entry))) m (now (flags .entry))) (now (list .entry)) (now (list .exit)) (now (area .entry)) (now (area .exit)) r ⌝ }
 {
-    let mut moved = [0u16; Trace::MAX_EVENTS];
-    let p = cone::pick(ev, flags, m, true, &mut moved);
-    let mut others = [0u16; Trace::MAX_EVENTS];
-    let q = cone::pick(ev, flags, m, false, &mut others);
-    find(ev, observed, &moved[..p], &others[..q], m, list, area)
+    let mut p = [0u16; Trace::MAX_EVENTS];
+    let np = cone::pick(ev, flags, m, true, &mut p);
+    let mut q = [0u16; Trace::MAX_EVENTS];
+    let nq = cone::pick(ev, flags, m, false, &mut q);
+    find(ev, observed, &p[..np], &q[..nq], m, list, area)
 }
 
 // The witness of a conflicting pair, in the front of the lent list. No pair is reported with a or b in its cone.

@@ -89,23 +89,22 @@ whole-area area part z = ap (λ (l : List ℕ). l ++ drop areaBytes area) z
 
 -- ---- questions 3 and 4, on a cleared work area with the links built
 
-module _ (t : Trace) (area : List ℕ) (q : Searchable t area) (area₁ : List ℕ) (c : area₁ ≡ replicate (length area) 0) where
+module _ (t : Trace) (g : Good t) (area : List ℕ) (n : length area ≡ areaBytes) (area₁ : List ℕ) (c : area₁ ≡ replicate (length area) 0) where
   zero-area : (area₂ : List ℕ) → area₂ ≡ area₁ → Zero area₂
   unfolding Zero
-  zero-area area₂ e = e ∙ c ∙ ap (λ (n : ℕ). replicate n 0) (q .long)
+  zero-area area₂ e = e ∙ c ∙ ap (λ (n : ℕ). replicate n 0) n
 
   module _ {prev obs rel : List ℕ} (k : Linked t prev obs rel) (list : List ℕ) where
     ready : length t ≤ length list → Ready t prev obs rel list area₁
     unfolding Clear
     ready l =
-        let n : length area₁ ≡ length area = ap length c ∙ length-replicate (length area) 0 in
-        let w = q .long in
-        record { good = q .good; links = k; room = l; clear = c ∙ ap (λ (m : ℕ). replicate m 0) (sym n); long = omega arith }
+        let m : length area₁ ≡ length area = ap length c ∙ length-replicate (length area) 0 in
+        record { good = g; links = k; room = l; clear = c ∙ ap (λ (i : ℕ). replicate i 0) (sym m); long = omega arith }
 
     pub listing-ready : length list ≡ maxEvents → Ready t prev obs rel list area₁
-    listing-ready l = let s = q .good .size in let h : length t ≤ length list = omega arith in ready h
+    listing-ready l = let s = g .size in let h : length t ≤ length list = omega arith in ready h
 
-    pub pair-asked : (a b : ℕ) → Decidable t a b list area → Asked t a b prev obs rel list area₁
+    pub pair-asked : (a b : ℕ) → Askable t a b list → Asked t a b prev obs rel list area₁
     pair-asked a b d = record { ready = ready (d .room); conflicting = d .conflicting }
 
   -- what is shown
@@ -162,9 +161,7 @@ module _ (t : Trace) (a b : ℕ) (list area : List ℕ) where
 
     module _ (w : not d ≡ false) where
       pub pair-decidable : Decidable t a b list (take areaBytes area)
-      pair-decidable =
-          let l = front-bytes area (area-long area d ed w) in
-          record { searchable = record { good = q .good; long = sym l }; conflicting = q .conflicting; room = q .room }
+      pair-decidable = record { askable = q; long = sym (front-bytes area (area-long area d ed w)) }
 
       decided-by : (o : Option (List ℕ)) → witness t a b ≡ o → (list′ part : List ℕ) (r : Finding) → Decides o list list′ part r → (r, list′, part ++ drop areaBytes area) ≡ verdictIn none t a b list area
       unfolding verdictIn verdictRefusal

@@ -29,9 +29,8 @@ pub record Askable (t : Trace) (a b : ℕ) (list : List ℕ) : Type 0 where
 
 -- the same, and a work area
 pub record Decidable (t : Trace) (a b : ℕ) (list area : List ℕ) : Type 0 where
-  pub searchable : Searchable t area
-  pub conflicting : isConflicting t a b ≡ true
-  pub room : length t ≤ length list
+  pub askable : Askable t a b list
+  pub long : length area ≡ areaBytes
 
 -- every byte of a work area is zero
 unfoldable pub Zero : List ℕ → Type 0

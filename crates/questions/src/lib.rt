@@ -41,7 +41,7 @@ pub enum Finding {
     NotReported,
 }
 
-// The answer to question 4.
+// The answer to question 4: a reported pair, or that there is none.
 pub enum Next {
     Refused(Refusal),
     Race { lower: u16, higher: u16 },

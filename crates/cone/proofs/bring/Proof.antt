@@ -1,5 +1,5 @@
 use borrow.Author.Needs.{needs}
-use Rattle.cone.proofs.CursorLaws.{brings-none, brings-flagged, brings-exempt, brings-new, prev-in, obs-in, rel-in}
+use Rattle.cone.proofs.SweepLaws.{brings-none, brings-flagged, brings-exempt, brings-new, prev-in, obs-in, rel-in}
 use Rattle.cone.proofs.bring.Statement.{statement}
 use Rattle.cone.proofs.bring.Tie as tie
 
@@ -8,8 +8,7 @@ bring-spec =
     tie.close
     (tie.spec
     (λ c. search needs)
-    (λ c. search needs)
-    (λ c. search (brings-none, needs))
+    (λ c. search brings-none)
     (λ c κs. search needs)
     (λ c. search (prev-in, needs))
     (λ c κs. search needs)
@@ -17,12 +16,10 @@ bring-spec =
     (λ c κs. search needs)
     (λ c. search (rel-in, needs))
     (λ c. search needs)
-    (λ c. search needs)
-    (λ c. search (brings-flagged, needs))
+    (λ c. search brings-flagged)
     (λ c κs. search needs)
     (λ c. search needs)
-    (λ c. search needs)
-    (λ c. search (brings-exempt, needs))
+    (λ c. search brings-exempt)
     (λ c. search (rel-in, needs))
     (λ c. search needs)
-    (λ c. search (brings-new, needs)))
+    (λ c. search brings-new))

@@ -1,9 +1,10 @@
+use mathlib.Core.Path.{_≡_}
+use lib.ListN.{length}
 use borrow.Author.Needs.{needs}
 use Rattle.format.specs.Bytes.{trace}
-use lib.ListN.{length}
-use mathlib.Core.Path.{_≡_}
-use Rattle.cone.specs.Cursor.{Closing, weight}
-use Rattle.cone.proofs.ConeLaws.{follow-start, valid-here, closing-end}
+use Rattle.cone.specs.Sweep.{Closing}
+use Rattle.cone.proofs.SweepLaws.{weight, weight-falls}
+use Rattle.cone.proofs.ConeLaws.{follow-start, closing-end}
 use Rattle.cone.proofs.follow.Statement.{statement}
 use Rattle.cone.proofs.follow.Tie as tie
 
@@ -21,8 +22,8 @@ follow-spec =
     μ-loop
     (λ c κs. search needs)
     (λ c. search (follow-start, needs))
-    (λ c κs. search (valid-here, needs))
-    (λ c. search needs)
+    (λ c κs. search needs)
+    (λ c. search (weight-falls, needs))
     (λ c. search needs)
     (λ c. search needs)
     (λ c. search (closing-end, needs)))

@@ -1,16 +1,18 @@
+use Prim.Native.Nat.{_+_, _-_}
+use mathlib.Core.Path.{_≡_}
+use lib.ListN.{length}
 use borrow.Author.Needs.{needs}
-use mathlib.Core.Logic.{⊎-elim}
 use Rattle.format.specs.Bytes.{trace}
-use Prim.Native.Nat.{_-_}
-use Rattle.cone.proofs.SplitLaws.{Picking, pick-one, pick-other, pick-start, pick-end, pick-room}
+use Rattle.cone.specs.Picking.{Picking}
+use Rattle.cone.proofs.SplitLaws.{pick-start, pick-valid, pick-sized, pick-end}
 use Rattle.cone.proofs.pick.Statement.{statement}
 use Rattle.cone.proofs.pick.Tie as tie
 
 abbrev Inv-loop : tie.InvT-loop
-Inv-loop ev flags m moved out₀ n r₀ i₀ out r i = Picking (trace ev) m moved flags out₀ i r out
+Inv-loop ev flags m side out₀ n r₀ k₀ out r k = Picking (trace ev) m side flags k r out × (length out ≡ length out₀)
 
 abbrev μ-loop : tie.MeasureT-loop
-μ-loop ev flags m moved out₀ n r₀ i₀ out r i = n - i
+μ-loop ev flags m side out₀ n r₀ k₀ out r k = n + 1 - k
 
 pub pick-spec : {M : Type 1} → statement M
 pick-spec =
@@ -20,15 +22,9 @@ pick-spec =
     μ-loop
     (λ c κs. search needs)
     (λ c. search (pick-start, needs))
-    (λ c. search needs)
-    (λ c κs. search needs)
-    (λ c. search needs)
-    (λ c. search needs)
-    (λ c. search needs)
-    (λ c. search (pick-room, needs))
+    (λ c κs. search (pick-valid, pick-sized, needs))
     (λ c. search needs)
     (λ c. search needs)
     (λ c. search needs)
-    (λ c. ⊎-elim (λ w. search (pick-one, needs)) (λ w. search (pick-other, needs)) (c .if1 .came))
     (λ c. search needs)
     (λ c. search (pick-end, needs)))

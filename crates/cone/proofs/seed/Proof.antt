@@ -1,7 +1,7 @@
 use borrow.Author.Needs.{needs}
 use lib.ListN.{length}
 use Prim.Native.Nat.{_-_}
-use Rattle.cone.specs.Cursor.{Seeded}
+use Rattle.cone.specs.Sweep.{Seeded}
 use Rattle.cone.proofs.StartLaws.{seed-start, seed-more, seed-end, seed-room, seed-root}
 use Rattle.cone.proofs.seed.Statement.{statement}
 use Rattle.cone.proofs.seed.Tie as tie

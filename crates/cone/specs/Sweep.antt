@@ -1,5 +1,5 @@
--- The way to the flags: a cursor goes from the last event down, and up again to each release that is new.
-use Prim.Native.Nat.{ℕ, _+_, _*_, _≤_, _<_}
+-- The way to the flags: sweeps from an event down, the next from the highest release that the last one flagged above itself.
+use Prim.Native.Nat.{ℕ, _+_, _≤_, _<_}
 use mathlib.Core.Path.{_≡_}
 use mathlib.Core.Bool.{false, cond}
 use mathlib.Core.List.{List, [], _∷_}
@@ -16,16 +16,16 @@ pub record Brought (t : Trace) (R flags : List ℕ) (k : ℕ) : Type 0 where
   pub seen : getD flags (observedBy t k) 0 ≡ 1
   pub closing : isExempt t R k ≡ false → getD flags (releaseOf t k) 0 ≡ 1
 
--- only events of the cone are flagged
+-- only events of the cone are flagged, and place 0, which stands for no event
 pub record Sound (t : Trace) (R flags : List ℕ) : Type 0 where
   pub room : length t < length flags
+  pub zero : getD flags 0 0 ≡ 1
   pub sound : (k : ℕ) → Valid t k → getD flags k 0 ≡ 1 → InCone t R k
 
--- Each flagged event above k has brought in its own. Place 0 is flagged: it stands for no event.
+-- besides, the event before each root is flagged, and each flagged event above k has brought in its own
 pub record Closing (t : Trace) (R : List ℕ) (k : ℕ) (flags : List ℕ) : Type 0 where
   pub high : k ≤ length t
   pub cone : Sound t R flags
-  pub zero : getD flags 0 0 ≡ 1
   pub rooted : (n : ℕ) → n < length R → getD flags (previous t (getD R n 0)) 0 ≡ 1
   pub closed : (j : ℕ) → k < j → j ≤ length t → getD flags j 0 ≡ 1 → Brought t R flags j
 
@@ -34,15 +34,20 @@ unfoldable pub unflagged : List ℕ → ℕ
 unflagged [] = 0
 unflagged (x ∷ l) = cond (eqb x 1) 0 1 + unflagged l
 
--- what is left to do with the cursor at k, of n events
-unfoldable pub weight : ℕ → ℕ → List ℕ → ℕ
-weight n k flags = unflagged flags * (n + 1) + k
-
--- event k is done, and k′ is next
-pub record Moved (t : Trace) (R : List ℕ) (k k′ : ℕ) (flags flags′ : List ℕ) : Type 0 where
+-- no flag is taken back; where r is not 0, there is a new one
+pub record Grown (r : ℕ) (flags flags′ : List ℕ) : Type 0 where
   pub same : length flags′ ≡ length flags
-  pub closing : Closing t R k′ flags′
-  pub falls : weight (length t) k′ flags′ < weight (length t) k flags
+  pub kept : (j : ℕ) → getD flags j 0 ≡ 1 → getD flags′ j 0 ≡ 1
+  pub fewer : unflagged flags′ ≤ unflagged flags
+  pub less : 0 < r → unflagged flags′ < unflagged flags
+
+-- Event k, where it is flagged, has brought in its own. Above both k and r, nothing is new.
+pub record Brings (t : Trace) (R : List ℕ) (k r : ℕ) (flags flags′ : List ℕ) : Type 0 where
+  pub high : r ≤ length t
+  pub cone : Sound t R flags′
+  pub above : (j : ℕ) → k < j → r < j → getD flags′ j 0 ≡ 1 → getD flags j 0 ≡ 1
+  pub brought : getD flags′ k 0 ≡ 1 → Brought t R flags′ k
+  pub grown : Grown r flags flags′
 
 -- ---- the start: the event before each root is flagged
 

@@ -1,0 +1,28 @@
+use Prim.Native.Nat.{max}
+use borrow.Author.Needs.{needs}
+use Rattle.format.specs.Bytes.{trace}
+use Rattle.cone.specs.Sweep.{Closing, Grown}
+use Rattle.cone.proofs.SweepLaws.{grown-more, sweep-start, sweep-valid, sweep-more, sweep-end}
+use Rattle.cone.proofs.sweep.Statement.{statement}
+use Rattle.cone.proofs.sweep.Tie as tie
+
+abbrev Inv-loop : tie.InvT-loop
+Inv-loop ev previous observed released roots from flags₀ top₀ k₀ flags top k = Closing (trace ev) roots (max k top) flags × Grown top flags₀ flags
+
+abbrev μ-loop : tie.MeasureT-loop
+μ-loop ev previous observed released roots from flags₀ top₀ k₀ flags top k = k
+
+pub sweep-spec : {M : Type 1} → statement M
+sweep-spec =
+    tie.close
+    (tie.spec
+    Inv-loop
+    μ-loop
+    (λ c. search (sweep-start, needs))
+    (λ c κs. search (sweep-valid, needs))
+    (λ c κs. search needs)
+    (λ c. search needs)
+    (λ c. search needs)
+    (λ c. search (sweep-more, grown-more, needs))
+    (λ c. search needs)
+    (λ c. search (sweep-end, needs)))
