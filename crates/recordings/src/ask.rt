@@ -68,14 +68,6 @@ fn checked(file: &[u8], a: u16, b: u16, l: &[u16]) {
     }
 }
 
-// The first n numbers of a lent list.
-fn front(l: &[u16], n: u16) {
-    let end = n as usize;
-    if end <= l.len() {
-        list(&l[0..end]);
-    }
-}
-
 // Question 3, and what is left of the list and of the area.
 fn verdict(file: &[u8], a: u16, b: u16, l: &mut [u16], area: &mut [u8]) {
     word(b"  verdict ");
@@ -88,7 +80,7 @@ fn verdict(file: &[u8], a: u16, b: u16, l: &mut [u16], area: &mut [u8]) {
             word(b"reported ");
             number(length as u64);
             word(b":");
-            front(l, length);
+            list(l, length);
         }
     }
     word(b"; ");
@@ -113,15 +105,6 @@ fn next(file: &[u8], a: u16, b: u16, area: &mut [u8]) {
     area_left(area);
 }
 
-// Question 5.
-fn check(file: &[u8], a: u16, b: u16, l: &[u16]) {
-    word(b"  check ");
-    pair(a, b);
-    word(b": ");
-    checked(file, a, b, l);
-    word(b"\n");
-}
-
 // A race, its witness by question 3, and what question 5 says to that.
 fn race(file: &[u8], a: u16, b: u16, area: &mut [u8]) {
     word(b"  race ");
@@ -143,7 +126,7 @@ fn race(file: &[u8], a: u16, b: u16, area: &mut [u8]) {
 
 // The first n numbers of a list, and what question 5 says to them.
 fn shown(file: &[u8], a: u16, b: u16, l: &[u16], n: u16) {
-    front(l, n);
+    list(l, n);
     word(b": ");
     let end = n as usize;
     if end <= l.len() {
@@ -237,10 +220,15 @@ fn ask_next(file: &[u8], a: u16, b: u16, bytes: usize) {
     next(file, a, b, &mut area[0..n]);
 }
 
+// Question 5 with the list that the numbers are.
 fn ask_check(file: &[u8], a: u16, b: u16, numbers: &[usize]) {
     let mut l = [0u16; 600];
     let n = propose(numbers, &mut l);
-    check(file, a, b, &l[0..n]);
+    word(b"  check ");
+    pair(a, b);
+    word(b": ");
+    checked(file, a, b, &l[0..n]);
+    word(b"\n");
 }
 
 // The question that a line of numbers asks.

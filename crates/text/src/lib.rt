@@ -158,10 +158,14 @@ fn entry(k: u16) {
     number(k as u64);
 }
 
-// Numbers, each after a space.
-pub fn list(l: &[u16]) {
+// The first n numbers of a list, each after a space.
+pub fn list(l: &[u16], n: u16) {
+    let end = n as usize;
     let mut i = 0;
     while i < l.len() {
+        if i == end {
+            return;
+        }
         entry(l[i]);
         i += 1;
     }

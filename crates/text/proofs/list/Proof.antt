@@ -5,25 +5,18 @@ use Rattle.text.proofs.list.Statement.{statement}
 use Rattle.text.proofs.list.Tie as tie
 
 abbrev Inv-loop : tie.InvT-loop
-Inv-loop l i₀ i = i ≤ length l
+Inv-loop l n end i₀ i = i ≤ length l
 
 abbrev μ-loop : tie.MeasureT-loop
-μ-loop l i₀ i = length l - i
+μ-loop l n end i₀ i = length l - i
 
--- src/say.rt:42:5
--- src/say.rt:43:15
--- src/say.rt:43:15
--- src/say.rt:43:9
--- src/say.rt:44:9
--- src/say.rt:42:5
--- src/say.rt:42:5
--- src/say.rt:40:1
 pub list-spec : {M : Type 1} → statement M
 list-spec =
     tie.close
     (tie.spec
     Inv-loop
     μ-loop
+    (λ c. search needs)
     (λ c. search needs)
     (λ c. search needs)
     (λ c. search needs)
