@@ -1,9 +1,7 @@
 // Asks all six questions of the recordings in the text on standard input, and writes the answers.
 // A line that begins with '=' is a title, and a recording begins; an empty line asks for the judgement, the observed writes (of 0 to 9 and,
 // where there are more than nine events, of 511 to 513 and 65535), the note and the races; a line that begins with '?' asks question 3, 4 or 5
-// of two numbers (ask.rt); every other line has some of the recording's bytes.
-mod ask;
-
+// of two numbers (`asking`); every other line has some of the recording's bytes.
 use questions::Judgement;
 use questions::Observed;
 use text::number;
@@ -83,7 +81,7 @@ fn answers(file: &[u8]) {
         word(b"\n");
     }
     noted(file);
-    ask::races(file);
+    asking::races(file);
 }
 
 // Reads a line where n bytes of a recording are there already; gives how many are there then.
@@ -101,7 +99,7 @@ fn take_line(line: &[u8], file: &mut [u8], n: usize) -> usize
         return 0;
     }
     if line[0] == b'?' {
-        ask::asked(&line[1..], &file[0..n]);
+        asking::asked(&line[1..], &file[0..n]);
         return n;
     }
     text::put_line(line, file, n)

@@ -2,8 +2,8 @@ use Prim.Native.Nat.{_-_}
 use lib.ListN.{length}
 use mathlib.Core.Path.{_≡_}
 use borrow.Author.Needs.{needs}
-use Rattle.recordings.proofs.ask.races.Statement.{statement}
-use Rattle.recordings.proofs.ask.races.Tie as tie
+use Rattle.asking.proofs.races.Statement.{statement}
+use Rattle.asking.proofs.races.Tie as tie
 
 abbrev Inv-loop : tie.InvT-loop
 Inv-loop file area₀ a₀ b₀ n₀ area a b n = length area ≡ length area₀

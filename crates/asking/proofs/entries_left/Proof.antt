@@ -1,8 +1,8 @@
 use Prim.Native.Nat.{_≤_, _-_}
 use lib.ListN.{length}
 use borrow.Author.Needs.{needs}
-use Rattle.recordings.proofs.ask.entries_left.Statement.{statement}
-use Rattle.recordings.proofs.ask.entries_left.Tie as tie
+use Rattle.asking.proofs.entries_left.Statement.{statement}
+use Rattle.asking.proofs.entries_left.Tie as tie
 
 abbrev Inv-loop : tie.InvT-loop
 Inv-loop l n₀ i₀ n i = (n ≤ i) × (i ≤ length l)

@@ -1,8 +1,8 @@
 use Prim.Native.Nat.{_≤_, _-_}
 use lib.ListN.{length}
 use borrow.Author.Needs.{needs}
-use Rattle.recordings.proofs.ask.zero_bytes.Statement.{statement}
-use Rattle.recordings.proofs.ask.zero_bytes.Tie as tie
+use Rattle.asking.proofs.zero_bytes.Statement.{statement}
+use Rattle.asking.proofs.zero_bytes.Tie as tie
 
 abbrev Inv-loop : tie.InvT-loop
 Inv-loop area n₀ i₀ n i = (n ≤ i) × (i ≤ length area)

@@ -2,8 +2,8 @@ use Prim.Native.Nat.{_≤_, _-_}
 use lib.ListN.{length}
 use mathlib.Core.Path.{_≡_}
 use borrow.Author.Needs.{needs}
-use Rattle.recordings.proofs.ask.propose.Statement.{statement}
-use Rattle.recordings.proofs.ask.propose.Tie as tie
+use Rattle.asking.proofs.propose.Statement.{statement}
+use Rattle.asking.proofs.propose.Tie as tie
 
 abbrev Inv-loop : tie.InvT-loop
 Inv-loop numbers l₀ i₀ l i = (length l ≡ length l₀) × (i ≤ length l₀)
