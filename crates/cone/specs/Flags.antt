@@ -34,6 +34,7 @@ pub record ConeFlags (t : Trace) (R flags : List ℕ) : Type 0 where
 
 -- ---- the flagged events of one side: those of thread m (true), or those of the others (false)
 
+-- event k is flagged
 unfoldable pub flagged : List ℕ → ℕ → Bool
 flagged flags k = eqb (getD flags k 0) 1
 

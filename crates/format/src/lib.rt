@@ -6,7 +6,7 @@ use limits::Trace;
 ghost use mathlib.Core.Path.{_≡_};
 ghost use Prim.Native.Nat.{_+_, _≤_, _<_};
 ghost use lib.ListN.{length};
-ghost use Rattle.model.specs.Trace.{Valid, at, threadOf, kindOf, objectOf};
+ghost use Rattle.model.specs.Trace.{Valid, at, threadOf, kindOf, objectOf, does};
 ghost use Rattle.limits.specs.Limits.{eventBytes};
 ghost use Rattle.format.specs.Bytes.{number16, number32, trace, plain};
 ghost use Rattle.format.specs.Layout.{Sized, isMarked, layoutRefusal, fileOf, Placed, eventPart};
@@ -126,6 +126,17 @@ pub fn object_at(ev: &[u8], k: usize) -> usize
     ensures { λ r. ⌜ r ≡ objectOf (trace (now (ev .entry))) k ⌝ }
 {
     read16(ev, Event::BYTES * (k - 1) + 2)
+}
+
+// Is event k of this kind, on this object?
+pub fn is_event(ev: &[u8], k: usize, kind: u8, object: usize) -> bool
+    requires { ⌜ Valid (trace (now ev)) k ⌝ }
+    ensures { λ r. ⌜ r ≡ does (trace (now (ev .entry))) kind object k ⌝ }
+{
+    if kind_at(ev, k) != kind {
+        return false;
+    }
+    object_at(ev, k) == object
 }
 
 // Event k.

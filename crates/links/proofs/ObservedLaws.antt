@@ -3,21 +3,9 @@ use Prim.Native.Nat.{ℕ, zero, suc, _-_, _≤_, _<_}
 use native.Mathlib.Omega.{arith}
 use mathlib.Core.Path.{_≡_, sym, _∙_, ap}
 use mathlib.Core.Bool.{Bool, true, false, cond}
-use lib.Dec.{eqb}
-use borrow.Author.Tests.{eq-eqb, ne-eqb}
-use Rattle.model.specs.Trace.{Trace, Valid, write, kindOf, objectOf, does}
+use Rattle.model.specs.Trace.{Trace, Valid, write, objectOf, does}
 use Rattle.model.specs.Lists.{upTo}
 use Rattle.model.specs.Observed.{lastWrite, observed}
-
--- what event k does
-module _ (t : Trace) (k c x kind : ℕ) (ek : kind ≡ kindOf t k) where
-  pub other-kind : (kind ≡ c → ⊥) → false ≡ does t c x k
-  unfolding does
-  other-kind ne = rw (ne-eqb (kindOf t k) c (λ e. ne (ek ∙ e)))
-
-  pub same-kind : kind ≡ c → (o : ℕ) → o ≡ objectOf t k → eqb o x ≡ does t c x k
-  unfolding does
-  same-kind e o eo = rw (eq-eqb (kindOf t k) c (sym ek ∙ e), eo)
 
 -- the events between j and k do not write the cell
 pub record Walking (t : Trace) (k cell j : ℕ) : Type 0 where

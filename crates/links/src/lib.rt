@@ -4,7 +4,7 @@ use limits::Event;
 use limits::Thread;
 ghost use mathlib.Core.Path.{_≡_};
 ghost use lib.ListN.{length};
-ghost use Rattle.model.specs.Trace.{Valid, write, does};
+ghost use Rattle.model.specs.Trace.{Valid};
 ghost use Rattle.model.specs.Observed.{observed};
 ghost use Rattle.format.specs.Bytes.{trace};
 ghost use Rattle.links.specs.Links.{previous, observedBy, releaseOf, Table, Linked, Room, Rooms};
@@ -14,17 +14,6 @@ const THREADS: usize = Thread::MAX as usize + 1;
 
 const OBJECTS: usize = Event::MAX_OBJECT + 1;
 
-// Is event j a write of the cell?
-fn writes(ev: &[u8], j: usize, cell: usize) -> bool
-    requires { ⌜ Valid (trace (now ev)) j ⌝ }
-    ensures { λ r. ⌜ r ≡ does (trace (now (ev .entry))) write cell j ⌝ }
-{
-    if format::kind_at(ev, j) == Event::WRITE {
-        return format::object_at(ev, j) == cell;
-    }
-    false
-}
-
 // The last write of event k's cell before it, by any thread; 0 where there is none. Walks back from the event.
 pub fn observed_write(ev: &[u8], k: usize) -> usize
     requires { ⌜ Valid (trace (now ev)) k ⌝ }
@@ -33,7 +22,7 @@ pub fn observed_write(ev: &[u8], k: usize) -> usize
     let cell = format::object_at(ev, k);
     let mut j = k - 1;
     while 0 < j {
-        if writes(ev, j, cell) {
+        if format::is_event(ev, j, Event::WRITE, cell) {
             return j;
         }
         j -= 1;

@@ -5,7 +5,7 @@ ghost use mathlib.Core.Path.{_≡_};
 ghost use Prim.Native.Nat.{_+_, _≤_};
 ghost use lib.ListN.{length, drop};
 ghost use lib.Dec.{eqb};
-ghost use Rattle.model.specs.Trace.{Valid, read, kindOf, does};
+ghost use Rattle.model.specs.Trace.{Valid, read, kindOf};
 ghost use Rattle.model.specs.Lists.{listed};
 ghost use Rattle.model.specs.Observed.{lastWrite};
 ghost use Rattle.model.specs.Good.{holder};
@@ -20,17 +20,6 @@ fn wide(k: u16) -> usize
     k as usize
 }
 
-// Is event k of this kind, on this object?
-fn is_event(ev: &[u8], k: usize, kind: u8, object: usize) -> bool
-    requires { ⌜ Valid (trace (now ev)) k ⌝ }
-    ensures { λ r. ⌜ r ≡ does (trace (now (ev .entry))) kind object k ⌝ }
-{
-    if format::kind_at(ev, k) != kind {
-        return false;
-    }
-    format::object_at(ev, k) == object
-}
-
 // Is the lock free after the first events of a list?
 fn lock_free(ev: &[u8], list: &[u16], upto: usize, lock: usize) -> bool
     requires { ⌜ AllValid (trace (now ev)) (now list) × (upto ≤ length (now list)) ⌝ }
@@ -40,10 +29,10 @@ fn lock_free(ev: &[u8], list: &[u16], upto: usize, lock: usize) -> bool
     while 0 < i {
         i -= 1;
         let k = wide(list[i]);
-        if is_event(ev, k, Event::ACQUIRE, lock) {
+        if format::is_event(ev, k, Event::ACQUIRE, lock) {
             return false;
         }
-        if is_event(ev, k, Event::RELEASE, lock) {
+        if format::is_event(ev, k, Event::RELEASE, lock) {
             return true;
         }
     }
@@ -59,7 +48,7 @@ fn last_write(ev: &[u8], list: &[u16], upto: usize, cell: usize) -> u16
     while 0 < i {
         i -= 1;
         let k = list[i];
-        if is_event(ev, wide(k), Event::WRITE, cell) {
+        if format::is_event(ev, wide(k), Event::WRITE, cell) {
             return k;
         }
     }
@@ -102,7 +91,7 @@ fn fits_other(ev: &[u8], observed: &[u16], k: usize, cell: usize, moved: u8, sid
     requires { ⌜ Seen (trace (now ev)) (now observed) × Valid (trace (now ev)) k ⌝ }
     ensures { λ r. ⌜ r ≡ fits (trace (now (ev .entry))) (sawOther (trace (now (ev .entry))) moved side) cell k ⌝ }
 {
-    if !is_event(ev, k, Event::READ, cell) {
+    if !format::is_event(ev, k, Event::READ, cell) {
         return true;
     }
     saw_other(ev, observed, k, moved, side)
@@ -113,7 +102,7 @@ fn fits_own(ev: &[u8], observed: &[u16], k: usize, cell: usize, other: &[u16], u
     requires { ⌜ Seen (trace (now ev)) (now observed) × Valid (trace (now ev)) k × (upto ≤ length (now other)) ⌝ }
     ensures { λ r. ⌜ r ≡ fits (trace (now (ev .entry))) (sawNone (trace (now (ev .entry))) (passed (now (other .entry)) upto)) cell k ⌝ }
 {
-    if !is_event(ev, k, Event::READ, cell) {
+    if !format::is_event(ev, k, Event::READ, cell) {
         return true;
     }
     !among(other, upto, observed[k])
@@ -135,7 +124,7 @@ fn pending_other(
     let mut i = from;
     while i < list.len() {
         let k = wide(list[i]);
-        if is_event(ev, k, Event::WRITE, cell) {
+        if format::is_event(ev, k, Event::WRITE, cell) {
             return true;
         }
         if !fits_other(ev, observed, k, cell, moved, side) {
@@ -162,7 +151,7 @@ fn pending_own(
     let mut i = from;
     while i < list.len() {
         let k = wide(list[i]);
-        if is_event(ev, k, Event::WRITE, cell) {
+        if format::is_event(ev, k, Event::WRITE, cell) {
             return true;
         }
         if !fits_own(ev, observed, k, cell, other, upto) {
