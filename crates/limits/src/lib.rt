@@ -70,6 +70,9 @@ pub struct Trace {
 impl Trace {
     pub const MAX_EVENTS: usize = 512;
 
+    // The places of a table by event number: one for each event, and one for 0.
+    pub const PLACES: usize = Trace::MAX_EVENTS + 1;
+
     // The most bytes of a file.
     pub const MAX_BYTES: usize = 4096;
 

@@ -8,9 +8,6 @@ ghost use Rattle.bits.specs.Marks.{Clear};
 ghost use Rattle.merge.specs.Places.{Given};
 ghost use Rattle.pair.specs.Pair.{Lower, accesses, pathOf, Searching, searchOf, Asked, Shows};
 
-// A place for each event, and for event 0.
-const PLACES: usize = Trace::MAX_EVENTS + 1;
-
 // The witness of a pair: none, or how long it is.
 pub enum Shown {
     Absent,
@@ -120,7 +117,7 @@ pub fn witness(
     let lower = a as usize;
     let higher = b as usize;
     let roots = [a, b];
-    let mut flags = [0u8; PLACES];
+    let mut flags = [0u8; Trace::PLACES];
     cone::cone_flags(ev, previous, observed, released, &roots, &mut flags);
     if flags[lower] == 1 {
         return Shown::Absent;

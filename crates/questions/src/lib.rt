@@ -17,9 +17,6 @@ ghost use Rattle.questions.specs.Verdicts.{verdictIn, answerVerdict, nex
 ghost use Rattle.questions.specs.Deciding.{Askable, Decidable, Decides, Searchable, Finds};
 ghost use Rattle.questions.specs.Note.{whole, front, answerNote};
 
-// A place for each event's link, and for event 0.
-const LINKS: usize = Trace::MAX_EVENTS + 1;
-
 // The answer to question 1.
 pub enum Judgement {
     Refused(Refusal),
@@ -108,9 +105,9 @@ fn decide(ev: &[u8], a: u16, b: u16, list: &mut [u16], area: &mut [u8]) -> Findi
     ensures { λ r. ⌜ Decides (witness (trace (now (ev .entry))) a b) (now (list .entry)) (now (list .exit)) (now (area .exit)) r ⌝ }
 {
     bits::clear(area);
-    let mut previous = [0u16; LINKS];
-    let mut observed = [0u16; LINKS];
-    let mut released = [0u16; LINKS];
+    let mut previous = [0u16; Trace::PLACES];
+    let mut observed = [0u16; Trace::PLACES];
+    let mut released = [0u16; Trace::PLACES];
     links::build(ev, &mut previous, &mut observed, &mut released);
     match pair::witness(ev, &previous, &observed, &released, a, b, list, area) {
         Shown::Absent => Finding::NotReported,
@@ -159,9 +156,9 @@ fn find_next(ev: &[u8], a: u16, b: u16, area: &mut [u8]) -> Next
     ensures { λ r. ⌜ Finds (nextRace (trace (now (ev .entry))) a b) (now (area .exit)) r ⌝ }
 {
     bits::clear(area);
-    let mut previous = [0u16; LINKS];
-    let mut observed = [0u16; LINKS];
-    let mut released = [0u16; LINKS];
+    let mut previous = [0u16; Trace::PLACES];
+    let mut observed = [0u16; Trace::PLACES];
+    let mut released = [0u16; Trace::PLACES];
     links::build(ev, &mut previous, &mut observed, &mut released);
     let mut list = [0u16; Trace::MAX_EVENTS];
     match listing::next_race(ev, &previous, &observed, &released, a, b, &mut list, area) {
@@ -203,9 +200,9 @@ fn check_in(ev: &[u8], a: u16, b: u16, list: &[u16]) -> Check
     if !pair::conflicting(ev, a, b) {
         return Check::Refused(Refusal::NotConflicting);
     }
-    let mut previous = [0u16; LINKS];
+    let mut previous = [0u16; Trace::PLACES];
     links::previous_links(ev, &mut previous);
-    let mut observed = [0u16; LINKS];
+    let mut observed = [0u16; Trace::PLACES];
     links::observed_links(ev, &mut observed);
     let fault = reordering::check(ev, &previous, &observed, a, b, list);
     if fault == 0 {
