@@ -16,7 +16,8 @@ use Rattle.model.specs.Listing.{Race}
 use Rattle.model.specs.Decision.{witness, isConflicting, nextRace}
 use Rattle.model.proofs.Tests.{false-test}
 use Rattle.model.proofs.ListingExact.{conflicting-exactly}
-use Rattle.pair.specs.Pair.{shown, Ready, Asked, Shows}
+use Rattle.pair.specs.Pair.{Ready, Asked, Shows}
+use Rattle.pair.proofs.ShownLaws.{shown-none, shown-some}
 use Rattle.pair.specs.declared.Shown.{Shown}
 use Rattle.pair.specs.declared.Shown.the-variants.{Absent, Length}
 use Rattle.listing.specs.Listed.{listed, Hands, witnessOf, NoRaces, FirstWith, with-none, with-race, HandsWith}
@@ -38,15 +39,6 @@ module _ (t : Trace) (a b : ℕ) (c : Bool) (ec : c ≡ isConflicting t a b) whe
     pub pair-shown : {list list′ area area′ : List ℕ} {r : Shown} → Shows (witness t a b) list list′ area area′ r → Shows (witnessOf t a b) list list′ area area′ r
     unfolding witnessOf
     pair-shown s = rw (sym ec ∙ not-false c w) s
-
--- what an answer says of the witness
-shown-none : (o : Option (List ℕ)) → Absent ≡ shown o → o ≡ none
-shown-none none e = refl
-shown-none (some ρ) e = let z : _≡_ {A = ℕ} 0 1 = cc in absurd (omega arith)
-
-shown-some : (o : Option (List ℕ)) (n : ℕ) → Length n ≡ shown o → (ρ : List ℕ) × (o ≡ some ρ) × (n ≡ length ρ)
-shown-some none n e = let z : _≡_ {A = ℕ} 0 1 = cc in absurd (omega arith)
-shown-some (some ρ) n e = (ρ, refl, cc)
 
 -- what is lent is as it was
 pub record Same (list₀ area₀ list area : List ℕ) : Type 0 where
@@ -128,13 +120,13 @@ pub walking-start : (t : Trace) (a b : ℕ) {prev obs rel list area : List ℕ} 
 walking-start t a b r = record { ready = r; lent = same refl refl; after = refl }
 
 -- what an answer says of the race
-listed-none : (o : Option Race) → NoMore ≡ listed o → o ≡ none
+pub listed-none : (o : Option Race) → NoMore ≡ listed o → o ≡ none
 listed-none none e = refl
 listed-none (some x) e = let z : _≡_ {A = ℕ} 0 1 = cc in absurd (omega arith)
 
-listed-some : (o : Option Race) (k j n : ℕ) → RaceOn k j n ≡ listed o → (x : Race) × (o ≡ some x)
+pub listed-some : (o : Option Race) (k j n : ℕ) → RaceOn k j n ≡ listed o → (x : Race) × (o ≡ some x) × (k ≡ x .lower) × (j ≡ x .higher)
 listed-some none k j n e = let z : _≡_ {A = ℕ} 0 1 = cc in absurd (omega arith)
-listed-some (some x) k j n e = (x, refl)
+listed-some (some x) k j n e = (x, refl, cc, cc)
 
 none-with : (t : Trace) (a b : ℕ) (o : Option Race) → o ≡ none → FirstWith t a b o → (y : ℕ) → NoRaces t a b y
 none-with t a b o e (with-none f) = f

@@ -1,2 +1,3 @@
 pub mod ConflictLaws
 pub mod SearchLaws
+pub mod ShownLaws

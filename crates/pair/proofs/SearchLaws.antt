@@ -65,8 +65,8 @@ module _ (t : Trace) (m : ℕ) where
 -- every place of the grid has its bit
 states-fit : (p q n : ℕ) → p ≤ maxEvents → q ≤ maxEvents → areaBytes ≤ n → p * (q + 1) + q < 8 * n
 states-fit p q n hp hq h =
-    let r : q + 1 ≤ 513 = omega arith in
-    let s : p * (q + 1) ≤ 512 * 513 = le-trans (mul-le-mul-right (q + 1) hp) (mul-le-mul-left 512 r) in
+    let r : q + 1 ≤ maxEvents + 1 = omega arith in
+    let s : p * (q + 1) ≤ maxEvents * (maxEvents + 1) = le-trans (mul-le-mul-right (q + 1) hp) (mul-le-mul-left maxEvents r) in
     omega arith
 
 found-front : (ρ list : List ℕ) → length ρ ≤ length list → sets list 0 ρ ≡ inFront ρ list

@@ -1,7 +1,7 @@
 -- The ways through questions 3, 4 and 5.
 use Prim.Native.Nat.{ℕ, zero, _+_, _≤_, _<_}
 use native.Mathlib.Omega.{arith}
-use mathlib.Core.Path.{_≡_, refl, sym, _∙_, ap}
+use mathlib.Core.Path.{_≡_, refl, sym, _∙_, ap, ap₂}
 use mathlib.Core.Bool.{Bool, true, false, not}
 use mathlib.Core.Option.{Option, none, some}
 use mathlib.Core.List.{List, _++_}
@@ -28,10 +28,12 @@ use Rattle.judging.specs.Judged.{fileRefusal}
 use Rattle.judging.proofs.FileLaws.{judged-refused, judged-clean}
 use Rattle.bits.specs.Marks.{Clear}
 use Rattle.links.specs.Links.{previous, observedBy, Table, Linked, Room, Rooms}
-use Rattle.pair.specs.Pair.{Ready, Asked, shown, Shows}
+use Rattle.pair.specs.Pair.{Ready, Asked, Shows}
+use Rattle.pair.proofs.ShownLaws.{shown-none, shown-some}
 use Rattle.pair.specs.declared.Shown.{Shown}
 use Rattle.pair.specs.declared.Shown.the-variants.{Absent, Length}
-use Rattle.listing.specs.Listed.{listed, Hands}
+use Rattle.listing.specs.Listed.{Hands}
+use Rattle.listing.proofs.LoopLaws.{listed-none, listed-some}
 use Rattle.listing.specs.declared.Listed.{Listed}
 use Rattle.listing.specs.declared.Listed.the-variants.{NoMore, Race as RaceOn}
 use Rattle.reordering.specs.Passing.{Asked as CheckAsked}
@@ -110,33 +112,21 @@ module _ (t : Trace) (g : Good t) (area : List ℕ) (n : length area ≡ areaByt
   -- what is shown
   module _ {o : Option (List ℕ)} {list list′ area₂ : List ℕ} (x : Shown) (w : Shows o list list′ area₁ area₂ x) where
     pub none-shown : x ≡ Absent → Decides o list list′ area₂ NotReported
-    none-shown e = record { says = go o (sym e ∙ w .says); wrote = w .wrote; zero = zero-area area₂ (w .same) }
-      where
-        go : (o : Option (List ℕ)) → Absent ≡ shown o → NotReported ≡ finding o
-        go none d = refl
-        go (some ρ) d = let z : _≡_ {A = ℕ} 0 1 = cc in absurd (omega arith)
+    none-shown e = record { says = sym (ap finding (shown-none o (sym e ∙ w .says))); wrote = w .wrote; zero = zero-area area₂ (w .same) }
 
     pub one-shown : (n : ℕ) → x ≡ Length n → Decides o list list′ area₂ (Reported n)
-    one-shown n e = record { says = go o (sym e ∙ w .says); wrote = w .wrote; zero = zero-area area₂ (w .same) }
-      where
-        go : (o : Option (List ℕ)) → Length n ≡ shown o → Reported n ≡ finding o
-        go none d = let z : _≡_ {A = ℕ} 0 1 = cc in absurd (omega arith)
-        go (some ρ) d = let k : n ≡ length ρ = cc in rw k
+    one-shown n e =
+        let y = shown-some o n (sym e ∙ w .says) in
+        record { says = ap (λ (k : ℕ). Reported k) (y .2) ∙ sym (ap finding (y .1)); wrote = w .wrote; zero = zero-area area₂ (w .same) }
 
   module _ {o : Option Race} {list list′ area₂ : List ℕ} (x : Listed) (w : Hands o list list′ area₁ area₂ x) where
     pub none-handed : x ≡ NoMore → Finds o area₂ NoRace
-    none-handed e = record { says = go o (sym e ∙ w .says); zero = zero-area area₂ (w .same) }
-      where
-        go : (o : Option Race) → NoMore ≡ listed o → NoRace ≡ next o
-        go none d = refl
-        go (some y) d = let z : _≡_ {A = ℕ} 0 1 = cc in absurd (omega arith)
+    none-handed e = record { says = sym (ap next (listed-none o (sym e ∙ w .says))); zero = zero-area area₂ (w .same) }
 
     pub one-handed : (k j n : ℕ) → x ≡ RaceOn k j n → Finds o area₂ (RaceWith k j)
-    one-handed k j n e = record { says = go o (sym e ∙ w .says); zero = zero-area area₂ (w .same) }
-      where
-        go : (o : Option Race) → RaceOn k j n ≡ listed o → RaceWith k j ≡ next o
-        go none d = let z : _≡_ {A = ℕ} 0 1 = cc in absurd (omega arith)
-        go (some y) d = let p : k ≡ y .lower = cc in let q : j ≡ y .higher = cc in rw (p, q)
+    one-handed k j n e =
+        let y = listed-some o k j n (sym e ∙ w .says) in
+        record { says = ap₂ RaceWith (y .2) (y .3) ∙ sym (ap next (y .1)); zero = zero-area area₂ (w .same) }
 
 -- ---- question 3
 
