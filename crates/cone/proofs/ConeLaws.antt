@@ -13,9 +13,10 @@ use Rattle.model.proofs.ConeExact.{cone-valid, false-exempt}
 use Rattle.model.proofs.Merges.{getD-mem}
 use Rattle.links.specs.Links.{previous, observedBy, releaseOf}
 use Rattle.links.proofs.LinkFacts.{previous-less, previous-earlier, previous-last, reads-observed, acquires-release}
-use Rattle.cone.specs.Flags.{Roots, Ready, ConeFlags}
-use Rattle.cone.specs.Sweep.{Closing, Brought, Seeds, Seeded}
-use Rattle.cone.proofs.ExemptLaws.{mem-place, root-valid}
+use Rattle.bringing.specs.Bringing.{Roots, Brought}
+use Rattle.bringing.proofs.ExemptLaws.{mem-place, root-valid}
+use Rattle.cone.specs.Flags.{Ready, ConeFlags}
+use Rattle.cone.specs.Sweep.{Closing, Seeds, Seeded}
 
 module _ {t : Trace} {prev obs rel R flags : List ℕ} (w : Ready t prev obs rel R flags) where
   root-at : (i : ℕ) → i < length R → Valid t (getD R i 0)

@@ -9,7 +9,7 @@ use lib.Dec.{eqb}
 use borrow.Author.Tests.{eqb-true, eqb-false}
 use Rattle.model.proofs.Tests.{by-cases}
 use Rattle.cone.specs.Sweep.{Clear, Seeds, Seeded}
-use Rattle.cone.proofs.SweepLaws.{flag-keep}
+use Rattle.bringing.proofs.BringLaws.{flag-keep}
 
 -- ---- all clear but place 0
 

@@ -29,7 +29,7 @@ fn race_on(
     requires { ⌜ Ready (trace (now ev)) (now previous) (now observed) (now released) (now list) (now area) ⌝ }
     ensures { λ r. ⌜ Shows (witnessOf (trace (now (ev .entry))) a b) (now (list .entry)) (now (list .exit)) (now (area .entry)) (now (area .exit)) r ⌝ }
 {
-    if !pair::conflicting(ev, a, b) {
+    if !conflicts::conflicting(ev, a, b) {
         return Shown::Absent;
     }
     pair::witness(ev, previous, observed, released, a, b, list, area)

@@ -21,7 +21,9 @@ use Rattle.model.proofs.Merges.{getD-mem}
 use Rattle.model.proofs.Threads.{mem-pair, in-pair-a, in-pair-b, pair-valid}
 use Rattle.model.proofs.ListingExact.{conflicting-exactly}
 use Rattle.limits.specs.Limits.{areaBytes}
-use Rattle.cone.specs.Flags.{flagged, flaggedOf, Roots, ConeFlags, Picked, Ready as ConeReady}
+use Rattle.bringing.specs.Bringing.{Roots}
+use Rattle.sides.specs.Sides.{flagged, flaggedOf, Picked}
+use Rattle.cone.specs.Flags.{ConeFlags, Ready as ConeReady}
 use Rattle.cone.proofs.SplitLaws.{flagged-cone, root-in, roots-out}
 use Rattle.steps.specs.Steps.{AllValid}
 use Rattle.merge.specs.Places.{Given, Found}

@@ -1,35 +1,20 @@
 -- The verdict on a pair in the places that it uses: the links of the trace, a lent list and a work area.
 use Prim.Native.Nat.{ℕ, _+_, _≤_, _<_}
 use mathlib.Core.Path.{_≡_}
-use mathlib.Core.Bool.{Bool, true, false, _&&_, _||_}
+use mathlib.Core.Bool.{true, false}
 use mathlib.Core.Option.{Option, none, some}
 use mathlib.Core.List.{List, _++_}
 use lib.ListN.{length, drop}
-use lib.Dec.{eqb}
-use Rattle.model.specs.Trace.{Trace, Valid, read, write}
+use Rattle.model.specs.Trace.{Trace}
 use Rattle.model.specs.Good.{Good, maxEvents}
 use Rattle.model.specs.Grid.{path}
 use Rattle.model.specs.Decision.{isConflicting}
 use Rattle.limits.specs.Limits.{areaBytes}
 use Rattle.bits.specs.Marks.{Clear}
 use Rattle.links.specs.Links.{observedBy, Table, Linked}
-use Rattle.cone.specs.Flags.{flaggedOf}
+use Rattle.sides.specs.Sides.{flaggedOf}
 use Rattle.pair.specs.declared.Shown.{Shown}
 use Rattle.pair.specs.declared.Shown.the-variants.{Absent, Length}
-
--- ---- conflicting pairs
-
--- two events of the trace, lower first
-pub record Lower (t : Trace) (a b : ℕ) : Type 0 where
-  pub first : Valid t a
-  pub second : Valid t b
-  pub lower : a < b
-
--- events of kinds c and d are accesses, and at least one a write
-unfoldable pub accesses : ℕ → ℕ → Bool
-accesses c d = (eqb c read || eqb c write) && ((eqb d read || eqb d write) && (eqb c write || eqb d write))
-
--- ---- the witness shown
 
 -- a lent list with ρ in its front, and the rest as it was
 unfoldable pub inFront : List ℕ → List ℕ → List ℕ

@@ -1,65 +1,15 @@
-// A pair of events: is it conflicting, and which witness is shown for it.
-use limits::Event;
+// A conflicting pair of events: which witness is shown for it.
 use limits::Trace;
-ghost use mathlib.Core.Path.{_≡_};
-ghost use Rattle.model.specs.Decision.{witness, isConflicting};
+ghost use Rattle.model.specs.Decision.{witness};
 ghost use Rattle.format.specs.Bytes.{trace};
 ghost use Rattle.bits.specs.Marks.{Clear};
 ghost use Rattle.merge.specs.Places.{Given};
-ghost use Rattle.pair.specs.Pair.{Lower, accesses, pathOf, Searching, searchOf, Asked, Shows};
+ghost use Rattle.pair.specs.Pair.{pathOf, Searching, searchOf, Asked, Shows};
 
 // The witness of a pair: none, or how long it is.
 pub enum Shown {
     Absent,
     Length(u16),
-}
-
-// Are events of these kinds accesses, at least one a write?
-fn accesses(c: u8, d: u8) -> bool
-    ensures { λ r. ⌜ r ≡ accesses c d ⌝ }
-{
-    if c == Event::WRITE {
-        if d == Event::READ {
-            return true;
-        }
-        return d == Event::WRITE;
-    }
-    if c == Event::READ {
-        return d == Event::WRITE;
-    }
-    false
-}
-
-// Are two events of the trace, lower first, a conflicting pair: of one cell, of different threads, both accesses, at least one a write?
-fn conflicting_in(ev: &[u8], a: usize, b: usize) -> bool
-    requires { ⌜ Lower (trace (now ev)) a b ⌝ }
-    ensures { λ r. ⌜ r ≡ isConflicting (trace (now (ev .entry))) a b ⌝ }
-{
-    if format::object_at(ev, a) != format::object_at(ev, b) {
-        return false;
-    }
-    if format::thread_at(ev, a) == format::thread_at(ev, b) {
-        return false;
-    }
-    accesses(format::kind_at(ev, a), format::kind_at(ev, b))
-}
-
-// Are a and b a conflicting pair? Any two numbers may be asked.
-pub fn conflicting(ev: &[u8], a: u16, b: u16) -> bool
-    ensures { λ r. ⌜ r ≡ isConflicting (trace (now (ev .entry))) a b ⌝ }
-{
-    let lower = a as usize;
-    let higher = b as usize;
-    if lower < 1 {
-        return false;
-    }
-    if higher <= lower {
-        return false;
-    }
-    if format::count(ev) < higher {
-        return false;
-    }
-    conflicting_in(ev, lower, higher)
 }
 
 // The path through the events p, of the moved thread m, and q, the others'.
@@ -94,9 +44,9 @@ fn search(
     ensures { λ r. ⌜ Shows (searchOf (trace (now (ev .entry))) m (now (flags .entry))) (now (list .entry)) (now (list .exit)) (now (area .entry)) (now (area .exit)) r ⌝ }
 {
     let mut p = [0u16; Trace::MAX_EVENTS];
-    let np = cone::pick(ev, flags, m, true, &mut p);
+    let np = sides::pick(ev, flags, m, true, &mut p);
     let mut q = [0u16; Trace::MAX_EVENTS];
-    let nq = cone::pick(ev, flags, m, false, &mut q);
+    let nq = sides::pick(ev, flags, m, false, &mut q);
     find(ev, observed, &p[..np], &q[..nq], m, list, area)
 }
 

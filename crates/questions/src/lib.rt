@@ -131,7 +131,7 @@ fn verdict_in(ev: &[u8], a: u16, b: u16, list: &mut [u16], area: &mut [u8]) -> F
     requires { ⌜ Good (trace (now ev)) ⌝ }
     ensures { λ r. ⌜ (r, now (list .exit), now (area .exit)) ≡ verdictIn none (trace (now (ev .entry))) a b (now (list .entry)) (now (area .entry)) ⌝ }
 {
-    if !pair::conflicting(ev, a, b) {
+    if !conflicts::conflicting(ev, a, b) {
         return Finding::Refused(Refusal::NotConflicting);
     }
     if list.len() < format::count(ev) {
@@ -197,7 +197,7 @@ fn check_in(ev: &[u8], a: u16, b: u16, list: &[u16]) -> Check
     requires { ⌜ Good (trace (now ev)) ⌝ }
     ensures { λ r. ⌜ r ≡ checkIn none (trace (now (ev .entry))) a b (now (list .entry)) ⌝ }
 {
-    if !pair::conflicting(ev, a, b) {
+    if !conflicts::conflicting(ev, a, b) {
         return Check::Refused(Refusal::NotConflicting);
     }
     let mut previous = [0u16; Trace::PLACES];

@@ -1,8 +1,10 @@
 use Prim.Native.Nat.{max}
 use borrow.Author.Needs.{needs}
 use Rattle.format.specs.Bytes.{trace}
-use Rattle.cone.specs.Sweep.{Closing, Grown}
-use Rattle.cone.proofs.SweepLaws.{grown-more, sweep-start, sweep-valid, sweep-more, sweep-end}
+use Rattle.bringing.specs.Bringing.{Grown}
+use Rattle.bringing.proofs.BringLaws.{grown-more}
+use Rattle.cone.specs.Sweep.{Closing}
+use Rattle.cone.proofs.SweepLaws.{sweep-start, sweep-valid, sweep-more, sweep-end}
 use Rattle.cone.proofs.sweep.Statement.{statement}
 use Rattle.cone.proofs.sweep.Tie as tie
 
