@@ -190,8 +190,8 @@ module _ {t : Trace} {obs p q : List ℕ} {m i j : ℕ} {area out : List ℕ} (r
   others-ready h = record { given = ready .given; p-in = ready .p-in; q-in = omega arith; sound = ready .sound }
 
   module _ (b : Bool) (eb : b ≡ stepAt t m false q p j i) (tb : not b ≡ false) {area₁ out₁ : List ℕ} (r : Bool) (a : Answer t m p q (i + (j + 1)) (pathAt t m p q i (j + 1)) area₁ out out₁ r) where
-    pub others-found : r ≡ true → Answer t m p q (i + j) (viaOthers t m p q i j) area₁ out (set out₁ (i + j) (getD q j 0)) true
-    others-found w = same-answer (others-at t m p q i j true (sym eb ∙ not-false b tb)) (step-found (getD q j 0) (i + (j + 1)) (omega arith) (rw w at a))
+    pub others-found : r ≡ true → {out₂ : List ℕ} → out₂ ≡ set out₁ (i + j) (getD q j 0) → Answer t m p q (i + j) (viaOthers t m p q i j) area₁ out out₂ true
+    others-found w e = rw e (same-answer (others-at t m p q i j true (sym eb ∙ not-false b tb)) (step-found (getD q j 0) (i + (j + 1)) (omega arith) (rw w at a)))
 
     pub others-none : r ≡ false → Answer t m p q (i + j) (viaOthers t m p q i j) area₁ out out₁ false
     others-none w = same-answer (others-at t m p q i j true (sym eb ∙ not-false b tb)) (step-none (getD q j 0) (i + (j + 1)) (rw w at a))
@@ -210,8 +210,8 @@ module _ {t : Trace} {obs p q : List ℕ} {m i j : ℕ} {area out : List ℕ} (r
   moved-ready h = record { given = ready .given; p-in = omega arith; q-in = ready .q-in; sound = ready .sound }
 
   module _ (b : Bool) (eb : b ≡ stepAt t m true p q i j) (tb : not b ≡ false) {area₁ out₁ : List ℕ} (r : Bool) (a : Answer t m p q (i + 1 + j) (pathAt t m p q (i + 1) j) area₁ out out₁ r) where
-    pub moved-found : r ≡ true → Answer t m p q (i + j) (viaMoved t m p q i j) area₁ out (set out₁ (i + j) (getD p i 0)) true
-    moved-found w = same-answer (moved-at t m p q i j true (sym eb ∙ not-false b tb)) (step-found (getD p i 0) (i + 1 + j) (omega arith) (rw w at a))
+    pub moved-found : r ≡ true → {out₂ : List ℕ} → out₂ ≡ set out₁ (i + j) (getD p i 0) → Answer t m p q (i + j) (viaMoved t m p q i j) area₁ out out₂ true
+    moved-found w e = rw e (same-answer (moved-at t m p q i j true (sym eb ∙ not-false b tb)) (step-found (getD p i 0) (i + 1 + j) (omega arith) (rw w at a)))
 
     pub moved-none : r ≡ false → Answer t m p q (i + j) (viaMoved t m p q i j) area₁ out out₁ false
     moved-none w = same-answer (moved-at t m p q i j true (sym eb ∙ not-false b tb)) (step-none (getD p i 0) (i + 1 + j) (rw w at a))

@@ -90,7 +90,7 @@ fn try_others(
         return false;
     }
     if explore(ev, observed, p, q, moved, i, j + 1, out, area) {
-        out[i + j] = q[j];
+        placing::place(q, j, out, i + j);
         return true;
     }
     false
@@ -118,7 +118,7 @@ fn try_moved(
         return false;
     }
     if explore(ev, observed, p, q, moved, i + 1, j, out, area) {
-        out[i + j] = p[i];
+        placing::place(p, i, out, i + j);
         return true;
     }
     false

@@ -16,6 +16,7 @@ use Rattle.merge.proofs.+explore+try_both+try_moved+try_others.Lts-try_
 use Rattle.bits.proofs.mark.Reads as mark-reads
 use Rattle.bits.proofs.marked.Reads as marked-reads
 use Rattle.merge.proofs.state_at.Reads as state-at-reads
+use Rattle.placing.proofs.place.Reads as place-reads
 use Rattle.steps.proofs.may_step.Reads as may-step-reads
 use Rattle.merge.proofs.+explore+try_both+try_moved+try_others.{statement}
 use Rattle.merge.proofs.+explore+try_both+try_moved+try_others.Tie.{close}
@@ -64,7 +65,7 @@ pub +explore+try-both+try-moved+try-others-spec : {M : Type 1} → statement M
     (λ c. search needs)
     (λ c. search (second-tried, needs)))
     (λ t. try-moved-lts.spec
-    (may-step-reads.Asked, may-step-reads.Learnt, below 2 explore.Pre t, explore.Post)
+    (may-step-reads.Asked, may-step-reads.Learnt, below 2 explore.Pre t, explore.Post, place-reads.Asked, place-reads.Learnt)
     (at 0 try-moved.Pre t)
     try-moved.Post
     (λ c. search (moved-over, needs))
@@ -73,10 +74,7 @@ pub +explore+try-both+try-moved+try-others-spec : {M : Type 1} → statement M
     (λ c. search needs)
     (λ c κs. search (moved-ready, needs))
     (λ c. search needs)
-    (λ c. search needs)
-    (λ c. search needs)
-    (λ c. search needs)
-    (λ c. search needs)
+    (λ c κs. search needs)
     (λ c. search needs)
     (λ c. search needs)
     (λ c. search (moved-found, needs))
@@ -84,7 +82,7 @@ pub +explore+try-both+try-moved+try-others-spec : {M : Type 1} → statement M
     (λ c. search needs)
     (λ c. search (moved-none, needs)))
     λ t. try-others-lts.spec
-    (may-step-reads.Asked, may-step-reads.Learnt, below 2 explore.Pre t, explore.Post)
+    (may-step-reads.Asked, may-step-reads.Learnt, below 2 explore.Pre t, explore.Post, place-reads.Asked, place-reads.Learnt)
     (at 0 try-others.Pre t)
     try-others.Post
     (λ c. search (others-over, needs))
@@ -93,10 +91,7 @@ pub +explore+try-both+try-moved+try-others-spec : {M : Type 1} → statement M
     (λ c. search needs)
     (λ c κs. search (others-ready, needs))
     (λ c. search needs)
-    (λ c. search needs)
-    (λ c. search needs)
-    (λ c. search needs)
-    (λ c. search needs)
+    (λ c κs. search needs)
     (λ c. search needs)
     (λ c. search needs)
     (λ c. search (others-found, needs))
