@@ -36,7 +36,7 @@ use Rattle.listing.specs.Listed.{Hands}
 use Rattle.listing.proofs.LoopLaws.{listed-none, listed-some}
 use Rattle.listing.specs.declared.Listed.{Listed}
 use Rattle.listing.specs.declared.Listed.the-variants.{NoMore, Race as RaceOn}
-use Rattle.reordering.specs.Passing.{Asked as CheckAsked}
+use Rattle.reordering.specs.Asked.{Asked as CheckAsked}
 use Rattle.questions.specs.Verdicts.{cleared, verdictRefusal, verdictIn, answerVerdict, nextRefusal, nextIn, answerNext, checkRefusal, checkIn, answerCheck}
 use Rattle.questions.specs.Deciding.{Searchable, Askable, Decidable, Zero, finding, Decides, next, Finds}
 use Rattle.questions.specs.declared.Finding.{Finding}

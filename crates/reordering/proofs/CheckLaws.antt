@@ -13,7 +13,7 @@ use Rattle.model.specs.Check.{accepted, first-fault, lower-not-enabled, higher-
 use Rattle.model.specs.Good.{Good, maxThread, maxObject}
 use Rattle.model.proofs.Merges.{passed-suc}
 use Rattle.model.proofs.CheckExact.{check-exactly}
-use Rattle.reordering.specs.Passing.{Here, Knows, NextAnswer, PlaceAnswer, Passed}
+use Rattle.faults.specs.Passing.{Here, Knows, NextAnswer, PlaceAnswer, Passed}
 use Rattle.links.proofs.TableLaws.{table-new}
 
 -- the first i places have no fault, and the tables are theirs

@@ -1,4 +1,1 @@
-pub mod NextLaws
-pub mod PlaceLaws
-pub mod PassLaws
 pub mod CheckLaws

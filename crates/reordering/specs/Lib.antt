@@ -1,2 +1,2 @@
--- What the check of a proposed list keeps, and what its parts answer.
-pub mod Passing
+-- The check of a proposed list.
+pub mod Asked

@@ -1,7 +1,7 @@
 use borrow.Author.Needs.{needs}
-use Rattle.reordering.proofs.PlaceLaws.{thread-small}
-use Rattle.reordering.proofs.thread.Statement.{statement}
-use Rattle.reordering.proofs.thread.Tie as tie
+use Rattle.faults.proofs.PlaceLaws.{thread-small}
+use Rattle.faults.proofs.thread.Statement.{statement}
+use Rattle.faults.proofs.thread.Tie as tie
 
 pub thread-spec : {M : Type 1} → statement M
 thread-spec =

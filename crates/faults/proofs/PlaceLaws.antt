@@ -12,7 +12,7 @@ use Rattle.model.specs.Good.{Good, maxThread, maxObject, holder}
 use Rattle.model.specs.Reordering.{Step}
 use Rattle.model.specs.Check.{PlaceFault, no-event, not-next, sees-otherwise, lock-held}
 use Rattle.links.proofs.LinkFacts.{reads-observed}
-use Rattle.reordering.specs.Passing.{Here, Observed, Knows, NextAnswer, Judged, AccessAnswer, PlaceAnswer}
+use Rattle.faults.specs.Passing.{Here, Observed, Knows, NextAnswer, Judged, AccessAnswer, PlaceAnswer}
 
 -- ---- the numbers of threads and objects
 

@@ -1,7 +1,7 @@
 use borrow.Author.Needs.{needs}
-use Rattle.reordering.proofs.PlaceLaws.{sees-same, sees-other, lock-free, lock-taken, no-access}
-use Rattle.reordering.proofs.access_fault.Statement.{statement}
-use Rattle.reordering.proofs.access_fault.Tie as tie
+use Rattle.faults.proofs.PlaceLaws.{sees-same, sees-other, lock-free, lock-taken, no-access}
+use Rattle.faults.proofs.access_fault.Statement.{statement}
+use Rattle.faults.proofs.access_fault.Tie as tie
 
 pub access-fault-spec : {M : Type 1} → statement M
 access-fault-spec =

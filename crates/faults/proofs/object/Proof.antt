@@ -1,7 +1,7 @@
 use borrow.Author.Needs.{needs}
-use Rattle.reordering.proofs.PlaceLaws.{object-small}
-use Rattle.reordering.proofs.object.Statement.{statement}
-use Rattle.reordering.proofs.object.Tie as tie
+use Rattle.faults.proofs.PlaceLaws.{object-small}
+use Rattle.faults.proofs.object.Statement.{statement}
+use Rattle.faults.proofs.object.Tie as tie
 
 pub object-spec : {M : Type 1} → statement M
 object-spec =

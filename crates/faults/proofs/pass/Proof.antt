@@ -1,7 +1,7 @@
 use borrow.Author.Needs.{needs}
-use Rattle.reordering.proofs.PassLaws.{pass-write, pass-acquire, pass-release, pass-other}
-use Rattle.reordering.proofs.pass.Statement.{statement}
-use Rattle.reordering.proofs.pass.Tie as tie
+use Rattle.faults.proofs.PassLaws.{pass-write, pass-acquire, pass-release, pass-other}
+use Rattle.faults.proofs.pass.Statement.{statement}
+use Rattle.faults.proofs.pass.Tie as tie
 
 pub pass-spec : {M : Type 1} → statement M
 pass-spec =

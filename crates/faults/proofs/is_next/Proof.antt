@@ -1,7 +1,7 @@
 use borrow.Author.Needs.{needs}
-use Rattle.reordering.proofs.NextLaws.{next-told}
-use Rattle.reordering.proofs.is_next.Statement.{statement}
-use Rattle.reordering.proofs.is_next.Tie as tie
+use Rattle.faults.proofs.NextLaws.{next-told}
+use Rattle.faults.proofs.is_next.Statement.{statement}
+use Rattle.faults.proofs.is_next.Tie as tie
 
 pub is-next-spec : {M : Type 1} → statement M
 is-next-spec =

@@ -27,14 +27,6 @@ Previous t l = Table (previous t) (length t) l
 abbrev pub Observed : Trace → List ℕ → Type 0
 Observed t l = Table (observedBy t) (length t) l
 
--- a good trace, the links of its events, and two of them
-pub record Asked (t : Trace) (prev obs : List ℕ) (a b : ℕ) : Type 0 where
-  pub good : Good t
-  pub earlier : Previous t prev
-  pub seen : Observed t obs
-  pub lower : Valid t a
-  pub higher : Valid t b
-
 -- ---- what is kept
 
 -- the last event of thread c in a history; 0 where there is none

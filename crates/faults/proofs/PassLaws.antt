@@ -12,9 +12,9 @@ use Rattle.model.specs.Good.{maxThread, maxObject, holder}
 use Rattle.model.proofs.Tests.{true-is, false-is, true-does, false-does, does-true, false-test}
 use Rattle.model.proofs.Histories.{of-legal}
 use Rattle.links.specs.Links.{Table}
-use Rattle.reordering.specs.Passing.{lastOf, Passed}
+use Rattle.faults.specs.Passing.{lastOf, Passed}
 use Rattle.links.proofs.TableLaws.{table-same, table-put}
-use Rattle.reordering.proofs.NextLaws.{knows-legal}
+use Rattle.faults.proofs.NextLaws.{knows-legal}
 
 module _ (t : Trace) (k : ℕ) (last writes locks : List ℕ) (c : ℕ) (ec : c ≡ threadOf t k) (lc : c ≤ maxThread) (x : ℕ) (ex : x ≡ objectOf t k) (lx : x ≤ maxObject) (d : ℕ) (ed : d ≡ kindOf t k) where
   abbrev Cells : List ℕ → List ℕ → Type 0

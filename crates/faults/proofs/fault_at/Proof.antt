@@ -1,7 +1,7 @@
 use borrow.Author.Needs.{needs}
-use Rattle.reordering.proofs.PlaceLaws.{number-low, number-high, number-here, place-not-next, place-next}
-use Rattle.reordering.proofs.fault_at.Statement.{statement}
-use Rattle.reordering.proofs.fault_at.Tie as tie
+use Rattle.faults.proofs.PlaceLaws.{number-low, number-high, number-here, place-not-next, place-next}
+use Rattle.faults.proofs.fault_at.Statement.{statement}
+use Rattle.faults.proofs.fault_at.Tie as tie
 
 pub fault-at-spec : {M : Type 1} → statement M
 fault-at-spec =

@@ -14,7 +14,7 @@ use Rattle.model.specs.Reordering.{Enabled}
 use Rattle.model.proofs.Tests.{by-cases}
 use Rattle.model.proofs.Histories.{Legal, to-legal, beginning}
 use Rattle.links.specs.Links.{previous}
-use Rattle.reordering.specs.Passing.{Here, Previous, lastOf, Knows, NextAnswer}
+use Rattle.faults.specs.Passing.{Here, Previous, lastOf, Knows, NextAnswer}
 
 -- ---- the trace's events that pass a test are told by the latest of them
 

@@ -1,0 +1,3 @@
+pub mod NextLaws
+pub mod PlaceLaws
+pub mod PassLaws

@@ -1,0 +1,2 @@
+-- The check of a list, place by place.
+pub mod Passing
