@@ -2,7 +2,8 @@
 use Prim.Native.Nat.{ℕ, _≤_, _<_}
 use native.Mathlib.Omega.{arith}
 use mathlib.Core.Path.{_≡_, sym, _∙_, ap}
-use mathlib.Core.Option.{none, some}
+use mathlib.Core.Logic.{_↔_}
+use mathlib.Core.Option.{Option, none, some}
 use mathlib.Core.List.{List}
 use lib.ListN.{length}
 use Rattle.model.specs.Good.{maxEvents}
@@ -15,7 +16,7 @@ use Rattle.limits.specs.declared.Refusal.{Refusal}
 use Rattle.limits.specs.declared.Trace.{Trace as Span}
 use Rattle.format.specs.declared.File.{File}
 use Rattle.format.specs.declared.File.the-variants.{Refused as FileRefused, Good as FileGood}
-use Rattle.judging.specs.Judged.{GoodFile, fileRefusal}
+use Rattle.judging.specs.Judged.{GoodFile, FileAnswer, fileRefusal}
 use Rattle.judging.specs.Walk.{effectOf}
 use Rattle.judging.specs.declared.Locks.{Locks}
 use Rattle.judging.specs.declared.Effect.{Effect}
@@ -25,6 +26,10 @@ use Rattle.judging.proofs.WalkLaws.{Judging, judging-stop, judging-end}
 
 four : 4 ≤ eventBytes
 four = omega arith
+
+-- what the first refusal of a file, or that there is none, means
+pub meaning : (s : List ℕ) (o : Option Refusal) → (fileRefusal eventBytes s ≡ o) ↔ FileAnswer eventBytes s o
+meaning s o = file-exactly eventBytes four s o
 
 -- ---- judging the events of a file that has been read
 
@@ -69,7 +74,7 @@ module _ (s : List ℕ) (f : File) where
       judged-clean = read-good s (fileRefusal eventBytes s) t (sym is ∙ e) .0
 
       pub judged-good : GoodFile eventBytes s
-      judged-good = file-exactly eventBytes four s none .0 judged-clean
+      judged-good = meaning s none .0 judged-clean
 
       pub judged-placed : Placed s t
       judged-placed = record { layout = judged-good .layout; span = read-good s (fileRefusal eventBytes s) t (sym is ∙ e) .1 }

@@ -3,5 +3,4 @@ pub mod JudgedExact
 -- The ways through the code
 pub mod EffectLaws
 pub mod WalkLaws
-pub mod ThreadLaws
 pub mod FileLaws

@@ -1,7 +1,7 @@
 -- The first refusal of a file: 1 to 4 by its layout, 5 to 9 by its events.
 use Prim.Native.Nat.{ℕ}
 use mathlib.Core.Path.{_≡_}
-use mathlib.Core.Bool.{cond}
+use mathlib.Core.Bool.{Bool, true, false, cond}
 use mathlib.Core.Option.{Option, none, some}
 use mathlib.Core.List.{List}
 use lib.Dec.{eqb}
@@ -45,6 +45,11 @@ named (some x) = some (refusalAt (x .code) (x .event))
 abbrev pub orElse : Option Refusal → Option Refusal → Option Refusal
 orElse none o = o
 orElse (some r) o = some r
+
+-- the refusal r, where a test fails
+abbrev pub unless : Bool → Refusal → Option Refusal
+unless true r = none
+unless false r = some r
 
 -- the first refusal of a file, if there is one
 unfoldable pub fileRefusal : ℕ → List ℕ → Option Refusal

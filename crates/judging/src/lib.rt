@@ -1,12 +1,10 @@
-// Judging a file: refusals 1 to 9 in their order, and the number of threads of a good one.
+// Judging a file: refusals 1 to 9 in their order.
 use format::File;
 use limits::Event;
 use limits::Refusal;
 use limits::Trace;
 ghost use mathlib.Core.Path.{_≡_};
-ghost use lib.ListN.{length};
 ghost use Rattle.model.specs.Good.{Good};
-ghost use Rattle.model.specs.Lists.{threads};
 ghost use Rattle.limits.specs.Limits.{eventBytes};
 ghost use Rattle.format.specs.Bytes.{trace};
 ghost use Rattle.format.specs.Layout.{Placed, fileOf};
@@ -106,18 +104,4 @@ pub fn judge(file: &[u8]) -> File
         File::Refused(r) => File::Refused(r),
         File::Good(t) => judge_events(file, t),
     }
-}
-
-// How many different threads have an event.
-pub fn thread_count(ev: &[u8]) -> u32
-    requires { ⌜ Good (trace (now ev)) ⌝ }
-    ensures { λ r. ⌜ r ≡ length (threads (trace (now (ev .entry)))) ⌝ }
-{
-    let mut seen = 0u16;
-    let mut k = format::count(ev);
-    while 0 < k {
-        seen = bits::include(seen, format::thread_at(ev, k));
-        k -= 1;
-    }
-    u16::count_ones(seen)
 }

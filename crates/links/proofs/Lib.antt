@@ -1,4 +1,3 @@
-pub mod ObservedLaws
 pub mod TableLaws
 pub mod PassLaws
 pub mod ReleaseLaws

@@ -1,15 +1,17 @@
--- Tables: a new one, one that stays, and one with a new entry.
+-- Tables: a new one, one that stays, and one with a new entry; room for them.
 use Prim.Native.Nat.{ℕ, _+_, _≤_}
 use native.Mathlib.Omega.{arith}
 use mathlib.Core.Path.{_≡_, sym, _∙_}
 use mathlib.Core.Logic.{_≢_}
 use mathlib.Core.List.{List}
-use lib.ListN.{replicate, set, length-set, getD-replicate, length-replicate}
+use lib.ListN.{length, replicate, set, length-set, getD-replicate, length-replicate}
 use lib.Seq.{getD-set-same, getD-set-other}
 use lib.Dec.{eqb}
 use borrow.Author.Tests.{eqb-true, eqb-false}
+use Rattle.model.specs.Trace.{Trace}
+use Rattle.model.specs.Good.{Good, maxEvents}
 use Rattle.model.proofs.Tests.{by-cases}
-use Rattle.links.specs.Links.{Table}
+use Rattle.links.specs.Links.{Table, Room, Rooms}
 
 pub table-new : (f : ℕ → ℕ) (n : ℕ) → ((x : ℕ) → f x ≡ 0) → Table f n (replicate (n + 1) 0)
 table-new f n z =
@@ -31,3 +33,10 @@ module _ {f : ℕ → ℕ} {n : ℕ} {l : List ℕ} (p : Table f n l) (g : ℕ �
             (λ q. rw (eqb-true y x q) (getD-set-same l x v 0 (omega arith) ∙ sym new))
             (λ q. let ne = eqb-false y x q in getD-set-other l x y v 0 ne ∙ p .is y c ∙ sym (old y ne));
       }
+
+-- room for a table of links, and for all three
+pub table-room : (t : Trace) → Good t → (l : List ℕ) → length l ≡ maxEvents + 1 → Room t l
+table-room t g l e = let s = g .size in record { good = g; long = omega arith }
+
+pub tables-room : (t : Trace) → Good t → (prev obs rel : List ℕ) → length prev ≡ maxEvents + 1 → length obs ≡ maxEvents + 1 → length rel ≡ maxEvents + 1 → Rooms t prev obs rel
+tables-room t g prev obs rel e f h = record { earlier = table-room t g prev e; seen = table-room t g obs f; closing = table-room t g rel h }

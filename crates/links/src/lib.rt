@@ -1,11 +1,8 @@
-// What an event is linked to: one read's observed write, and tables of the links of all events, each filled in one pass.
+// What each event is linked to: tables of the links of all events, each filled in one pass.
 // A table has event k's link at place k; place 0 is 0.
 use limits::Event;
 use limits::Thread;
-ghost use mathlib.Core.Path.{_≡_};
 ghost use lib.ListN.{length};
-ghost use Rattle.model.specs.Trace.{Valid};
-ghost use Rattle.model.specs.Observed.{observed};
 ghost use Rattle.format.specs.Bytes.{trace};
 ghost use Rattle.links.specs.Links.{previous, observedBy, releaseOf, Table, Linked, Room, Rooms};
 ghost use Rattle.links.specs.Step.{Ready, Stepped};
@@ -13,22 +10,6 @@ ghost use Rattle.links.specs.Step.{Ready, Stepped};
 const THREADS: usize = Thread::MAX as usize + 1;
 
 const OBJECTS: usize = Event::MAX_OBJECT + 1;
-
-// The last write of event k's cell before it, by any thread; 0 where there is none. Walks back from the event.
-pub fn observed_write(ev: &[u8], k: usize) -> usize
-    requires { ⌜ Valid (trace (now ev)) k ⌝ }
-    ensures { λ r. ⌜ r ≡ observed (trace (now (ev .entry))) k ⌝ }
-{
-    let cell = format::object_at(ev, k);
-    let mut j = k - 1;
-    while 0 < j {
-        if format::is_event(ev, j, Event::WRITE, cell) {
-            return j;
-        }
-        j -= 1;
-    }
-    0
-}
 
 // The event before each in its thread: the last one of each thread, as the events pass.
 pub fn previous_links(ev: &[u8], out: &mut [u16])

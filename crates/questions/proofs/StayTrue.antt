@@ -13,12 +13,13 @@ use Rattle.model.proofs.Agree.{extended-conflicting}
 use Rattle.model.proofs.StaysTrue.{stays-true}
 use Rattle.limits.specs.declared.Refusal.{Refusal}
 use Rattle.pair.specs.Pair.{inFront}
-use Rattle.questions.specs.Verdicts.{eventsOf, VerdictAsked, verdictBy, verdictIn, answerVerdict, check-yes, answerCheck}
-use Rattle.questions.specs.Deciding.{finding}
+use Rattle.verdicts.specs.Verdict.{verdictBy, verdictIn}
+use Rattle.questions.specs.Verdicts.{eventsOf, VerdictAsked, answerVerdict, check-yes, answerCheck}
+use Rattle.verdicts.specs.Deciding.{finding}
 use Rattle.questions.specs.AnswersStayTrue.{Extends, verdictOn, listAfter, NotRefused, SameAnswer, DemandThree}
-use Rattle.questions.specs.declared.Finding.{Finding}
-use Rattle.questions.specs.declared.Finding.the-variants.{Refused, Reported}
-use Rattle.questions.specs.declared.Check.the-variants.{Yes}
+use Rattle.verdicts.specs.declared.Finding.{Finding}
+use Rattle.verdicts.specs.declared.Finding.the-variants.{Refused, Reported}
+use Rattle.checking.specs.declared.Check.the-variants.{Yes}
 use Rattle.questions.proofs.VerdictsExact.{refusalOf, refusal-exactly, check-reordering-exactly}
 
 -- the front of a list that shows ρ is ρ

@@ -2,7 +2,7 @@
 use Prim.Native.Nat.{ℕ, zero, suc, _≤_}
 use native.Mathlib.Omega.{arith}
 use mathlib.Core.Path.{_≡_, refl, sym, _∙_}
-use mathlib.Core.Logic.{_≢_, _↔_}
+use mathlib.Core.Logic.{_↔_}
 use mathlib.Core.Bool.{true, false}
 use mathlib.Core.Option.{Option, none, some}
 use mathlib.Core.List.{List}
@@ -20,12 +20,14 @@ use Rattle.limits.specs.Limits.{eventBytes, areaBytes, isAreaSize}
 use Rattle.limits.proofs.LimitLaws.{area-true, area-false, true-area, false-area}
 use Rattle.limits.specs.declared.Refusal.{Refusal}
 use Rattle.judging.specs.Judged.{GoodFile, fileRefusal}
-use Rattle.questions.proofs.AnswersExact.{meaning}
-use Rattle.questions.specs.Verdicts.{eventsOf, VerdictAsked, VerdictRefusal, by-file, not-conflicting, list-short, area-short, Verdict, verdict-refused, verdict-reported, verdict-not, verdictRefusal, verdictBy, verdictIn, answerVerdict, NextAfter, next-refused, next-area-short, next-race, next-none as no-race, nextRefusal, nextBy, nextIn, answerNext, Checks, check-refused, check-not-conflicting, check-yes, check-no, checkRefusal, checkBy, checkIn, answerCheck}
-use Rattle.questions.specs.declared.Finding.{Finding}
+use Rattle.judging.proofs.FileLaws.{meaning}
+use Rattle.checking.proofs.CheckingLaws.{no-with}
+use Rattle.verdicts.specs.Verdict.{verdictRefusal, verdictBy, verdictIn}
+use Rattle.checking.specs.Checking.{checkRefusal, checkBy, checkIn}
+use Rattle.questions.specs.Verdicts.{eventsOf, VerdictAsked, VerdictRefusal, by-file, not-conflicting, list-short, area-short, Verdict, verdict-refused, verdict-reported, verdict-not, answerVerdict, NextAfter, next-refused, next-area-short, next-race, next-none as no-race, nextRefusal, nextBy, nextIn, answerNext, Checks, check-refused, check-not-conflicting, check-yes, check-no, answerCheck}
+use Rattle.verdicts.specs.declared.Finding.{Finding}
 use Rattle.questions.specs.declared.Next.{Next}
-use Rattle.questions.specs.declared.Check.{Check}
-use Rattle.questions.specs.declared.Check.the-variants.{No}
+use Rattle.checking.specs.declared.Check.{Check}
 
 -- the first refusal of question 3
 abbrev pub refusalOf : List ℕ → ℕ → ℕ → List ℕ → List ℕ → Option Refusal
@@ -141,10 +143,6 @@ module _ (s : List ℕ) (a b : ℕ) (area : List ℕ) where
   next-race-exactly x = ((λ e. rw e at (next-given (fileRefusal eventBytes s) refl (nextRace (eventsOf s) a b) refl)), next-told x)
 
 -- ---- question 5
-
-pub no-with : (n : ℕ) → n ≢ 0 → checkBy none n ≡ No n
-no-with zero ne = absurd (ne refl)
-no-with (suc n) ne = refl
 
 module _ (s : List ℕ) (a b : ℕ) (list : List ℕ) where
   check-given : (f : Option Refusal) → fileRefusal eventBytes s ≡ f → (n : ℕ) → check (eventsOf s) a b list ≡ n → Checks s a b list (checkBy (checkRefusal (fileRefusal eventBytes s) (eventsOf s) a b) n)

@@ -10,9 +10,9 @@ use Rattle.limits.specs.Limits.{eventBytes}
 use Rattle.limits.specs.declared.Refusal.{Refusal}
 use Rattle.judging.specs.Judged.{GoodFile}
 use Rattle.questions.specs.Verdicts.{eventsOf, answerVerdict, answerCheck}
-use Rattle.questions.specs.declared.Finding.{Finding}
-use Rattle.questions.specs.declared.Finding.the-variants.{Refused, Reported}
-use Rattle.questions.specs.declared.Check.the-variants.{Yes}
+use Rattle.verdicts.specs.declared.Finding.{Finding}
+use Rattle.verdicts.specs.declared.Finding.the-variants.{Refused, Reported}
+use Rattle.checking.specs.declared.Check.the-variants.{Yes}
 
 -- s′ is a good file, with any preamble, whose events extend those of s
 pub record Extends (s s′ : List ℕ) : Type 0 where

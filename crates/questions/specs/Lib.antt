@@ -1,7 +1,6 @@
 -- The answers to the questions, as definitions over the file's bytes.
 pub mod Answers
-pub mod Note
 pub mod Verdicts
-pub mod Deciding
+pub mod Searching
 -- demand 3, of the answers
 pub mod AnswersStayTrue

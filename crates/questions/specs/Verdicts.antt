@@ -1,42 +1,33 @@
 -- Questions 3, 4 and 5: the verdict on a pair, the next race, and the check of a proposed list. What is lent is settled with the answer.
-use Prim.Native.Nat.{ℕ, zero, suc, _≤_, _<_}
+use Prim.Native.Nat.{ℕ, _≤_, _<_}
 use mathlib.Core.Logic.{_≢_}
-use mathlib.Core.Bool.{Bool, true, false}
 use mathlib.Core.Option.{Option, none, some}
-use mathlib.Core.List.{List, _++_}
-use lib.ListN.{length, drop, replicate}
-use lib.Dec.{leb}
+use mathlib.Core.List.{List}
+use lib.ListN.{length}
 use Rattle.model.specs.Trace.{Trace}
 use Rattle.model.specs.Reordering.{BringsBoth}
 use Rattle.model.specs.Race.{Conflicting, Reported, Witness}
-use Rattle.model.specs.Check.{CheckAnswer, check}
+use Rattle.model.specs.Check.{CheckAnswer}
 use Rattle.model.specs.Listing.{Race, RaceOf, After, FirstAfter}
-use Rattle.model.specs.Decision.{witness, isConflicting, nextRace}
+use Rattle.model.specs.Decision.{nextRace}
 use Rattle.limits.specs.Limits.{eventBytes, areaBytes, isAreaSize}
 use Rattle.format.specs.Layout.{events}
 use Rattle.limits.specs.declared.Refusal.{Refusal}
 use Rattle.limits.specs.declared.Refusal.the-variants.{ListShort, NotConflicting, AreaShort}
-use Rattle.judging.specs.Judged.{GoodFile, FileRefusal, orElse, fileRefusal}
+use Rattle.judging.specs.Judged.{GoodFile, FileRefusal, orElse, unless, fileRefusal}
 use Rattle.pair.specs.Pair.{inFront}
-use Rattle.questions.specs.declared.Finding.{Finding}
-use Rattle.questions.specs.declared.Finding.the-variants.{Refused as VerdictRefused, Reported as ReportedWith, NotReported}
+use Rattle.verdicts.specs.Verdict.{cleared, verdictIn}
+use Rattle.verdicts.specs.declared.Finding.{Finding}
+use Rattle.verdicts.specs.declared.Finding.the-variants.{Refused as VerdictRefused, Reported as ReportedWith, NotReported}
 use Rattle.questions.specs.declared.Next.{Next}
 use Rattle.questions.specs.declared.Next.the-variants.{Refused as NextRefused, Race as RaceOn, NoRace}
-use Rattle.questions.specs.declared.Check.{Check}
-use Rattle.questions.specs.declared.Check.the-variants.{Refused as CheckRefused, Yes, No}
+use Rattle.checking.specs.Checking.{checkIn}
+use Rattle.checking.specs.declared.Check.{Check}
+use Rattle.checking.specs.declared.Check.the-variants.{Refused as CheckRefused, Yes, No}
 
 -- the events of a file
 abbrev pub eventsOf : List ℕ → Trace
 eventsOf s = events eventBytes s
-
--- a work area after an answer: its first 65,536 bytes are zero, and the rest is as it was
-unfoldable pub cleared : List ℕ → List ℕ
-cleared area = replicate areaBytes 0 ++ drop areaBytes area
-
--- the refusal r, where a test fails
-abbrev pub unless : Bool → Refusal → Option Refusal
-unless true r = none
-unless false r = some r
 
 -- ---- question 3
 
@@ -60,20 +51,7 @@ pub data Verdict (s : List ℕ) (a b : ℕ) (list area : List ℕ) : Finding × 
   verdict-reported : {ρ : List ℕ} → VerdictAsked s a b list area → Witness (eventsOf s) a b ρ → Verdict s a b list area (ReportedWith (length ρ), inFront ρ list, cleared area)
   verdict-not : VerdictAsked s a b list area → ¬ Reported (eventsOf s) a b → Verdict s a b list area (NotReported, list, cleared area)
 
--- computed, by the file's refusal f, if there is one, and its events
-unfoldable pub verdictRefusal : Option Refusal → Trace → ℕ → ℕ → List ℕ → List ℕ → Option Refusal
-verdictRefusal f t a b list area =
-    orElse f
-    (orElse (unless (isConflicting t a b) NotConflicting) (orElse (unless (leb (length t) (length list)) ListShort) (unless (isAreaSize (length area)) AreaShort)))
-
-abbrev pub verdictBy : Option Refusal → Option (List ℕ) → List ℕ → List ℕ → Finding × List ℕ × List ℕ
-verdictBy (some r) o list area = (VerdictRefused r, list, area)
-verdictBy none none list area = (NotReported, list, cleared area)
-verdictBy none (some ρ) list area = (ReportedWith (length ρ), inFront ρ list, cleared area)
-
-unfoldable pub verdictIn : Option Refusal → Trace → ℕ → ℕ → List ℕ → List ℕ → Finding × List ℕ × List ℕ
-verdictIn f t a b list area = verdictBy (verdictRefusal f t a b list area) (witness t a b) list area
-
+-- computed
 unfoldable pub answerVerdict : List ℕ → ℕ → ℕ → List ℕ → List ℕ → Finding × List ℕ × List ℕ
 answerVerdict s a b list area = verdictIn (fileRefusal eventBytes s) (eventsOf s) a b list area
 
@@ -111,16 +89,5 @@ pub data Checks (s : List ℕ) (a b : ℕ) (list : List ℕ) : Check → Type 0 
   check-no : {n : ℕ} → GoodFile eventBytes s → Conflicting (eventsOf s) a b → n ≢ 0 → CheckAnswer (eventsOf s) a b list n → Checks s a b list (No n)
 
 -- computed
-unfoldable pub checkRefusal : Option Refusal → Trace → ℕ → ℕ → Option Refusal
-checkRefusal f t a b = orElse f (unless (isConflicting t a b) NotConflicting)
-
-abbrev pub checkBy : Option Refusal → ℕ → Check
-checkBy (some r) n = CheckRefused r
-checkBy none zero = Yes
-checkBy none (suc n) = No (suc n)
-
-unfoldable pub checkIn : Option Refusal → Trace → ℕ → ℕ → List ℕ → Check
-checkIn f t a b list = checkBy (checkRefusal f t a b) (check t a b list)
-
 unfoldable pub answerCheck : List ℕ → ℕ → ℕ → List ℕ → Check
 answerCheck s a b list = checkIn (fileRefusal eventBytes s) (eventsOf s) a b list

@@ -1,5 +1,6 @@
 use borrow.Author.Needs.{needs}
-use Rattle.questions.proofs.VerdictLaws.{tables-room, listing-ready, none-handed, one-handed}
+use Rattle.links.proofs.TableLaws.{tables-room}
+use Rattle.questions.proofs.VerdictLaws.{listing-ready, none-handed, one-handed}
 use Rattle.questions.proofs.find_next.Statement.{statement}
 use Rattle.questions.proofs.find_next.Tie as tie
 

@@ -1,5 +1,6 @@
 use borrow.Author.Needs.{needs}
-use Rattle.questions.proofs.VerdictLaws.{next-refused, area-long, front-bytes, next-searchable, next-found}
+use Rattle.verdicts.proofs.AreaLaws.{area-long, front-bytes}
+use Rattle.questions.proofs.VerdictLaws.{next-refused, next-searchable, next-found}
 use Rattle.questions.proofs.next_in.Statement.{statement}
 use Rattle.questions.proofs.next_in.Tie as tie
 

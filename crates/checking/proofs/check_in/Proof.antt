@@ -1,0 +1,21 @@
+use borrow.Author.Needs.{needs}
+use Rattle.links.proofs.TableLaws.{table-room}
+use Rattle.checking.proofs.CheckingLaws.{check-refused, check-asked, check-clean, check-fault}
+use Rattle.checking.proofs.check_in.Statement.{statement}
+use Rattle.checking.proofs.check_in.Tie as tie
+
+pub check-in-spec : {M : Type 1} → statement M
+check-in-spec =
+    tie.close
+    (tie.spec
+    (λ c κs. search needs)
+    (λ c. search (check-refused, needs))
+    (λ c. search needs)
+    (λ c κs. search needs)
+    (λ c. search needs)
+    (λ c κs. search (table-room, needs))
+    (λ c. search needs)
+    (λ c. search needs)
+    (λ c κs. search (check-asked, needs))
+    (λ c. search (check-clean, needs))
+    (λ c. search (check-fault, needs)))

@@ -1,0 +1,2 @@
+-- Question 5 on events.
+pub mod Checking

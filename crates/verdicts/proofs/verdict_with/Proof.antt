@@ -1,0 +1,18 @@
+use borrow.Author.Needs.{needs}
+use Rattle.verdicts.proofs.AreaLaws.{area-long, front-bytes}
+use Rattle.verdicts.proofs.VerdictLaws.{area-refused, pair-decidable, pair-decided}
+use Rattle.verdicts.proofs.verdict_with.Statement.{statement}
+use Rattle.verdicts.proofs.verdict_with.Tie as tie
+
+pub verdict-with-spec : {M : Type 1} → statement M
+verdict-with-spec =
+    tie.close
+    (tie.spec
+    (λ c κs. search needs)
+    (λ c. search (area-refused, needs))
+    (λ c. search (area-long, needs))
+    (λ c. search (front-bytes, area-long, needs))
+    (λ c κs. search (pair-decidable, needs))
+    (λ c. search needs)
+    (λ c. search needs)
+    (λ c. search (pair-decided, needs)))
