@@ -22,7 +22,7 @@ exempt-spec =
     (λ c. search (exempt-start, needs))
     (λ c κs. search needs)
     (λ c κs. search (root-valid, needs))
-    (λ c. search (exempt-found, needs))
+    (λ c. search exempt-found)
     (λ c. search needs)
     (λ c. search needs)
     (λ c. search (exempt-more, needs))

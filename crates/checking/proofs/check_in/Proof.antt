@@ -18,4 +18,4 @@ check-in-spec =
     (λ c. search needs)
     (λ c κs. search (check-asked, needs))
     (λ c. search (check-clean, needs))
-    (λ c. search (check-fault, needs)))
+    (λ c. search check-fault))

@@ -7,7 +7,7 @@ pub fault-at-spec : {M : Type 1} → statement M
 fault-at-spec =
     tie.close
     (tie.spec
-    (λ c. search (number-low, needs))
+    (λ c. search number-low)
     (λ c κs. search needs)
     (λ c. search (number-high, needs))
     (λ c κs. search (number-here, needs))

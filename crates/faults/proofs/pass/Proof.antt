@@ -14,7 +14,7 @@ pass-spec =
     (λ c. search needs)
     (λ c. search needs)
     (λ c. search needs)
-    (λ c. search (pass-write, needs))
+    (λ c. search pass-write)
     (λ c. search needs)
     (λ c. search needs)
     (λ c. search needs)

@@ -27,6 +27,6 @@ observed-links-spec =
     (λ c κs. search (pass-ready, forward-valid, needs))
     (λ c. search needs)
     (λ c. search needs)
-    (λ c. search (observed-more, needs))
+    (λ c. search observed-more)
     (λ c. search (pass-length, needs))
     (λ c. search (observed-end, needs)))

@@ -34,6 +34,6 @@ previous-links-spec =
     (λ c. search (forward-thread, needs))
     (λ c. search needs)
     (λ c. search needs)
-    (λ c. search (previous-more, needs))
+    (λ c. search previous-more)
     (λ c. search (pass-length, needs))
     (λ c. search (previous-end, needs)))

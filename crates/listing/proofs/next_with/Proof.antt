@@ -19,7 +19,7 @@ next-with-spec =
     μ-loop
     (λ c κs. search needs)
     (λ c. search needs)
-    (λ c. search (trying-start, needs))
+    (λ c. search trying-start)
     (λ c. search (higher-fits, needs))
     (λ c κs. search (trying-ready, needs))
     (λ c. search needs)

@@ -12,6 +12,6 @@ note-spec =
     (λ c κs. search needs)
     (λ c. search needs)
     (λ c κs. search (preamble-within, needs))
-    (λ c. search (refused-note, needs))
-    (λ c. search (operators-note, needs))
+    (λ c. search refused-note)
+    (λ c. search operators-note)
     (λ c. search (preamble-note, needs)))

@@ -11,7 +11,7 @@ observed-in-spec =
     (λ c κs. search needs)
     (λ c. search (above, needs))
     (λ c κs. search needs)
-    (λ c. search (other-kind, needs))
+    (λ c. search other-kind)
     (λ c κs. search needs)
     (λ c. search (start-seen, needs))
     (λ c. search (seen-fits, needs))

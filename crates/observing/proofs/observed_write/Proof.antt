@@ -23,5 +23,5 @@ observed-write-spec =
     (λ c. search (walking-found, needs))
     (λ c. search needs)
     (λ c. search needs)
-    (λ c. search (walking-on, needs))
+    (λ c. search walking-on)
     (λ c. search (walking-end, needs)))

@@ -24,4 +24,4 @@ decide-spec =
     (λ c. search (none-shown, needs))
     (λ c. search needs)
     (λ c. search needs)
-    (λ c. search (one-shown, needs)))
+    (λ c. search one-shown))

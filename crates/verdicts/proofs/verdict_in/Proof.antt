@@ -8,7 +8,7 @@ verdict-in-spec =
     tie.close
     (tie.spec
     (λ c κs. search needs)
-    (λ c. search (pair-refused, needs))
+    (λ c. search pair-refused)
     (λ c κs. search needs)
     (λ c. search (list-refused, needs))
     (λ c κs. search (pair-askable, needs))
