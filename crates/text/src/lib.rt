@@ -1,5 +1,5 @@
 // The text that a program reads and writes: bytes from words of hex digits, two to a byte (a last one alone is passed over), where a word
-// that begins with a number and '*' stands that many times; and words, numbers and refusals on standard output.
+// that begins with a number and '*' stands that many times; and words, numbers, hex digits and refusals on standard output.
 use libc::STDOUT_FILENO;
 use limits::EventNumber;
 use limits::Refusal;
@@ -27,23 +27,27 @@ fn digit(c: u8) -> u8
     match c {
         b'0'..=b'9' => c - b'0',
         b'A'..=b'F' => c - b'A' + 10,
-        b'a'..=b'f' => c - b'a' + 10,
         _ => 0,
     }
 }
 
-// The number, of at most five digits, before `end`.
-fn decimal(word: &[u8], end: usize) -> usize
-    requires { ⌜ end ≤ length (now word) ⌝ }
-    ensures { λ r. ⌜ r < 100016 ⌝ }
-{
+// The number n with one more digit, up to five; a space begins a number anew.
+fn with_digit(n: usize, c: u8) -> usize {
+    if c == b' ' {
+        return 0;
+    }
+    if 10000 <= n {
+        return n;
+    }
+    n * 10 + digit(c) as usize
+}
+
+// The last number of a text.
+pub fn decimal(text: &[u8]) -> usize {
     let mut n = 0;
     let mut i = 0;
-    while i < end {
-        if 10000 <= n {
-            return n;
-        }
-        n = n * 10 + digit(word[i]) as usize;
+    while i < text.len() {
+        n = with_digit(n, text[i]);
         i += 1;
     }
     n
@@ -74,7 +78,7 @@ fn put_word(word: &[u8], file: &mut [u8], n: usize) -> usize
     if star == word.len() {
         return put_hex(word, file, n);
     }
-    let mut left = decimal(word, star);
+    let mut left = decimal(&word[0..star]);
     let mut m = n;
     while 0 < left {
         m = put_hex(&word[star + 1..], file, m);
@@ -83,12 +87,11 @@ fn put_word(word: &[u8], file: &mut [u8], n: usize) -> usize
     m
 }
 
-// The bytes of a line go behind the first n of the file; how many are there after it.
-pub fn put_line(line: &[u8], file: &mut [u8], n: usize) -> usize
-    requires { ⌜ n ≤ length (now file) ⌝ }
+// The bytes of a line, in the front of a file; how many there are.
+pub fn bytes(line: &[u8], file: &mut [u8]) -> usize
     ensures { λ r. ⌜ r ≤ length (now (file .entry)) ⌝ }
 {
-    let mut m = n;
+    let mut m = 0;
     let mut i = 0;
     while i < line.len() {
         let e = until(line, i, b' ');
@@ -101,8 +104,15 @@ pub fn put_line(line: &[u8], file: &mut [u8], n: usize) -> usize
     m
 }
 
+fn short(n: usize) -> u16 {
+    if 65535 < n {
+        return 65535;
+    }
+    n as u16
+}
+
 // The numbers of a line, in the front of a list; how many there are.
-pub fn numbers(line: &[u8], list: &mut [usize]) -> usize
+pub fn numbers(line: &[u8], list: &mut [u16]) -> usize
     ensures { λ r. ⌜ r ≤ length (now (list .entry)) ⌝ }
 {
     let mut m = 0;
@@ -112,8 +122,7 @@ pub fn numbers(line: &[u8], list: &mut [usize]) -> usize
             return m;
         }
         let e = until(line, i, b' ');
-        let word = &line[i..e];
-        list[m] = decimal(word, word.len());
+        list[m] = short(decimal(&line[i..e]));
         m += 1;
         if e == line.len() {
             return m;
@@ -129,32 +138,43 @@ pub fn word(text: &[u8]) {
     io::write_all(STDOUT_FILENO, text);
 }
 
+pub fn byte(b: u8) {
+    let one = [b];
+    word(&one);
+}
+
+// Stands between two fields of a line.
+pub fn bar() {
+    word(b" | ");
+}
+
 pub fn number(n: u64) {
     io::print_decimal(STDOUT_FILENO, n);
 }
 
+// A number after a word.
+pub fn count(text: &[u8], n: u64) {
+    word(text);
+    number(n);
+}
+
 pub fn refused(r: Refusal) {
-    word(b"refused ");
-    number(r.number() as u64);
+    count(b"refused ", r.number() as u64);
     match r.event() {
         EventNumber::Absent => {}
-        EventNumber::At(k) => {
-            word(b" at ");
-            number(k as u64);
-        }
+        EventNumber::At(k) => count(b" at ", k as u64),
     }
 }
 
 // Two event numbers, as in a pair.
 pub fn pair(a: u16, b: u16) {
     number(a as u64);
-    word(b" ");
-    number(b as u64);
+    entry(b);
 }
 
 // A number after a space.
 fn entry(k: u16) {
-    word(b" ");
+    byte(b' ');
     number(k as u64);
 }
 
@@ -167,6 +187,28 @@ pub fn list(l: &[u16], n: u16) {
             return;
         }
         entry(l[i]);
+        i += 1;
+    }
+}
+
+fn hex_digit(d: u8) {
+    if d < 10 {
+        byte(d + b'0');
+        return;
+    }
+    byte(d % 16 + 55);
+}
+
+fn hex_byte(b: u8) {
+    hex_digit(b / 16);
+    hex_digit(b % 16);
+}
+
+// Bytes as hex digits, without spaces.
+pub fn hex(bytes: &[u8]) {
+    let mut i = 0;
+    while i < bytes.len() {
+        hex_byte(bytes[i]);
         i += 1;
     }
 }

@@ -1,13 +1,14 @@
 use borrow.Author.Needs.{needs}
-use Prim.Native.Nat.{_<_, _-_}
+use Prim.Native.Nat.{_≤_, _-_}
+use lib.ListN.{length}
 use Rattle.text.proofs.decimal.Statement.{statement}
 use Rattle.text.proofs.decimal.Tie as tie
 
 abbrev Inv-loop : tie.InvT-loop
-Inv-loop word end n₀ i₀ n i = n < 100016
+Inv-loop text n₀ i₀ n i = i ≤ length text
 
 abbrev μ-loop : tie.MeasureT-loop
-μ-loop word end n₀ i₀ n i = end - i
+μ-loop text n₀ i₀ n i = length text - i
 
 pub decimal-spec : {M : Type 1} → statement M
 decimal-spec =
@@ -17,11 +18,7 @@ decimal-spec =
     μ-loop
     (λ c. search needs)
     (λ c. search needs)
-    (λ c. search needs)
-    (λ c. search needs)
     (λ c κs. search needs)
-    (λ c. search needs)
-    (λ c. search needs)
     (λ c. search needs)
     (λ c. search needs)
     (λ c. search needs)

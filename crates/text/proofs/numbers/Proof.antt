@@ -1,7 +1,7 @@
+use borrow.Author.Needs.{needs}
 use Prim.Native.Nat.{_≤_, _-_}
 use lib.ListN.{length}
 use mathlib.Core.Path.{_≡_}
-use borrow.Author.Needs.{needs}
 use Rattle.text.proofs.numbers.Statement.{statement}
 use Rattle.text.proofs.numbers.Tie as tie
 
@@ -11,24 +11,6 @@ Inv-loop line list₀ m₀ i₀ list m i = (length list ≡ length list₀) × (
 abbrev μ-loop : tie.MeasureT-loop
 μ-loop line list₀ m₀ i₀ list m i = length line - i
 
--- src/text.rt:107:5
--- src/text.rt:109:13
--- src/text.rt:109:13
--- src/text.rt:111:13
--- src/text.rt:112:20
--- src/text.rt:112:20
--- src/text.rt:112:20
--- src/text.rt:113:19
--- src/text.rt:113:9
--- src/text.rt:113:9
--- src/text.rt:114:9
--- src/text.rt:116:13
--- src/text.rt:116:13
--- src/text.rt:118:13
--- src/text.rt:107:5
--- src/text.rt:107:5
--- src/text.rt:102:1
--- src/text.rt:102:1
 pub numbers-spec : {M : Type 1} → statement M
 numbers-spec =
     tie.close
@@ -42,6 +24,7 @@ numbers-spec =
     (λ c. search needs)
     (λ c. search needs)
     (λ c. search needs)
+    (λ c κs. search needs)
     (λ c κs. search needs)
     (λ c. search needs)
     (λ c. search needs)

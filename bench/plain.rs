@@ -1,0 +1,283 @@
+//! The nightly report as straightforward Rust: the recording's events in a vector, links built once, then for
+//! each conflicting pair the cone, its split into the moved thread's events and the others', and a search with a
+//! table of dead places. Nothing is shared with the proved code; the two reports are compared byte for byte.
+
+const READ: u8 = 1;
+const WRITE: u8 = 2;
+const ACQUIRE: u8 = 3;
+const RELEASE: u8 = 4;
+
+#[derive(Clone, Copy)]
+struct Event {
+    thread: u8,
+    kind: u8,
+    object: u16,
+}
+
+/// The events of a good file; event k is `events[k]`, and place 0 is not used.
+fn parse(file: &[u8]) -> Option<Vec<Event>> {
+    if file.len() < 8 || file.len() > 4096 || file[file.len() - 2..] != [0x50, 0x4C] {
+        return None;
+    }
+    let trailer = &file[file.len() - 8..];
+    let distance = u32::from_le_bytes(trailer[..4].try_into().unwrap()) as usize;
+    let n = u16::from_le_bytes(trailer[4..6].try_into().unwrap()) as usize;
+    if n > 512 || distance != 8 + 4 * n || distance > file.len() {
+        return None;
+    }
+    let mut events = vec![Event {
+        thread: 0,
+        kind: 0,
+        object: 0,
+    }];
+    for e in file[file.len() - distance..file.len() - 8].chunks(4) {
+        events.push(Event {
+            thread: e[0],
+            kind: e[1],
+            object: u16::from_le_bytes([e[2], e[3]]),
+        });
+    }
+    well_formed(&events).then_some(events)
+}
+
+fn well_formed(events: &[Event]) -> bool {
+    let mut holder = [None; 256];
+    for e in &events[1..] {
+        if e.kind == 0 || e.kind > 4 || e.thread > 15 || e.object > 255 {
+            return false;
+        }
+        let lock = e.object as usize;
+        if e.kind == ACQUIRE {
+            if holder[lock].is_some() {
+                return false;
+            }
+            holder[lock] = Some(e.thread);
+        }
+        if e.kind == RELEASE {
+            if holder[lock] != Some(e.thread) {
+                return false;
+            }
+            holder[lock] = None;
+        }
+    }
+    true
+}
+
+/// For each event the one before it in its thread, a read's observed write, an acquire's release; 0 for none.
+struct Links {
+    previous: Vec<usize>,
+    observed: Vec<usize>,
+    released: Vec<usize>,
+}
+
+fn links(events: &[Event]) -> Links {
+    let places = events.len();
+    let mut l = Links {
+        previous: vec![0; places],
+        observed: vec![0; places],
+        released: vec![0; places],
+    };
+    let mut last_of_thread = [0; 16];
+    let mut last_write = [0; 256];
+    let mut acquired = [0; 256];
+    for k in 1..places {
+        let e = events[k];
+        let object = e.object as usize;
+        l.previous[k] = last_of_thread[e.thread as usize];
+        last_of_thread[e.thread as usize] = k;
+        match e.kind {
+            READ => l.observed[k] = last_write[object],
+            WRITE => last_write[object] = k,
+            ACQUIRE => acquired[object] = k,
+            _ => l.released[acquired[object]] = k,
+        }
+    }
+    l
+}
+
+fn conflicting(x: Event, y: Event) -> bool {
+    x.object == y.object
+        && x.thread != y.thread
+        && (x.kind == WRITE && (y.kind == WRITE || y.kind == READ)
+            || x.kind == READ && y.kind == WRITE)
+}
+
+/// Which events are in the causal cone of (a, b): a list of events still to be followed.
+fn cone(events: &[Event], l: &Links, a: usize, b: usize) -> Vec<bool> {
+    let mut inside = vec![false; events.len()];
+    inside[0] = true;
+    let mut waiting = vec![l.previous[a], l.previous[b]];
+    while let Some(k) = waiting.pop() {
+        if inside[k] {
+            continue;
+        }
+        inside[k] = true;
+        waiting.push(l.previous[k]);
+        waiting.push(l.observed[k]);
+        let thread = events[k].thread;
+        if thread != events[a].thread && thread != events[b].thread {
+            waiting.push(l.released[k]);
+        }
+    }
+    inside
+}
+
+/// The search on the grid: `p` has the moved thread's events, `q` the others'.
+struct Search<'a> {
+    events: &'a [Event],
+    observed: &'a [usize],
+    moved: u8,
+    p: Vec<usize>,
+    q: Vec<usize>,
+    dead: Vec<bool>,
+}
+
+impl Search<'_> {
+    fn is(&self, k: usize, kind: u8, object: u16) -> bool {
+        self.events[k].kind == kind && self.events[k].object == object
+    }
+
+    fn lock_free(&self, passed: &[usize], lock: u16) -> bool {
+        let last = passed
+            .iter()
+            .rev()
+            .find(|&&k| self.is(k, ACQUIRE, lock) || self.is(k, RELEASE, lock));
+        last.is_none_or(|&k| self.events[k].kind == RELEASE)
+    }
+
+    /// Did the read k observe a write that is in the list to which k does not belong?
+    fn sees_other(&self, k: usize) -> bool {
+        let w = self.observed[k];
+        w != 0 && (self.events[w].thread == self.moved) != (self.events[k].thread == self.moved)
+    }
+
+    /// The reads of a cell in what is ahead, up to the next write of it.
+    fn reads_ahead<'b>(
+        &'b self,
+        ahead: &'b [usize],
+        cell: u16,
+    ) -> impl Iterator<Item = usize> + 'b {
+        let until_write = ahead
+            .iter()
+            .copied()
+            .take_while(move |&k| !self.is(k, WRITE, cell));
+        until_write.filter(move |&k| self.is(k, READ, cell))
+    }
+
+    /// May the event i of `own` come next, where j events of `other` were passed?
+    fn may_step(&self, own: &[usize], i: usize, other: &[usize], j: usize) -> bool {
+        let k = own[i];
+        let object = self.events[k].object;
+        match self.events[k].kind {
+            READ => {
+                let last = other[..j]
+                    .iter()
+                    .rev()
+                    .find(|&&w| self.is(w, WRITE, object));
+                !self.sees_other(k) || last == Some(&self.observed[k])
+            }
+            WRITE => {
+                self.reads_ahead(&other[j..], object)
+                    .all(|r| self.sees_other(r))
+                    && self
+                        .reads_ahead(&own[i + 1..], object)
+                        .all(|r| !other[..j].contains(&self.observed[r]))
+            }
+            ACQUIRE => self.lock_free(&own[..i], object) && self.lock_free(&other[..j], object),
+            _ => true,
+        }
+    }
+
+    /// Is there a path from the place (i, j) to the end? It is put in `path` from its end on.
+    fn explore(&mut self, i: usize, j: usize, path: &mut Vec<usize>) -> bool {
+        if i == self.p.len() && j == self.q.len() {
+            return true;
+        }
+        let place = i * (self.q.len() + 1) + j;
+        if self.dead[place] {
+            return false;
+        }
+        if j < self.q.len() && self.may_step(&self.q, j, &self.p, i) && self.explore(i, j + 1, path)
+        {
+            path.push(self.q[j]);
+            return true;
+        }
+        if i < self.p.len() && self.may_step(&self.p, i, &self.q, j) && self.explore(i + 1, j, path)
+        {
+            path.push(self.p[i]);
+            return true;
+        }
+        self.dead[place] = true;
+        false
+    }
+}
+
+fn witness(events: &[Event], l: &Links, a: usize, b: usize) -> Option<Vec<usize>> {
+    let inside = cone(events, l, a, b);
+    if inside[a] || inside[b] {
+        return None;
+    }
+    let moved = events[a].thread;
+    let members = (1..events.len()).filter(|&k| inside[k]);
+    let (p, q): (Vec<usize>, Vec<usize>) = members.partition(|&k| events[k].thread == moved);
+    let dead = vec![false; (p.len() + 1) * (q.len() + 1)];
+    let mut search = Search {
+        events,
+        observed: &l.observed,
+        moved,
+        p,
+        q,
+        dead,
+    };
+    let mut path = Vec::new();
+    search.explore(0, 0, &mut path).then(|| {
+        path.reverse();
+        path
+    })
+}
+
+fn push_number(out: &mut Vec<u8>, n: usize) {
+    if n >= 10 {
+        push_number(out, n / 10);
+    }
+    out.push(b'0' + (n % 10) as u8);
+}
+
+fn push_line(out: &mut Vec<u8>, a: usize, b: usize, path: &[usize]) {
+    out.extend_from_slice(b"race ");
+    push_number(out, a);
+    out.push(b' ');
+    push_number(out, b);
+    out.extend_from_slice(b" witness");
+    for &k in path {
+        out.push(b' ');
+        push_number(out, k);
+    }
+    out.push(b'\n');
+}
+
+/// The nightly report of a good file, and how many conflicting pairs it has.
+pub fn report(file: &[u8], out: &mut Vec<u8>) -> usize {
+    out.clear();
+    let events = parse(file).expect("a good file");
+    let l = links(&events);
+    let threads = (0..16)
+        .filter(|&t| events[1..].iter().any(|e| e.thread == t))
+        .count();
+    out.extend_from_slice(format!("events {} threads {threads}\n", events.len() - 1).as_bytes());
+    let (mut pairs, mut races) = (0, 0);
+    for a in 1..events.len() {
+        for b in a + 1..events.len() {
+            if !conflicting(events[a], events[b]) {
+                continue;
+            }
+            pairs += 1;
+            if let Some(path) = witness(&events, &l, a, b) {
+                push_line(out, a, b, &path);
+                races += 1;
+            }
+        }
+    }
+    out.extend_from_slice(format!("races {races}\n").as_bytes());
+    pairs
+}

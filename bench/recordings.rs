@@ -1,0 +1,85 @@
+//! Seeded recordings of a given length: well-formed, by so many threads, with few or many cells and sparse or
+//! dense locks.
+
+/// xorshift64*: the same numbers on every machine.
+pub struct Random(u64);
+
+impl Random {
+    pub fn new(seed: u64) -> Random {
+        Random(seed.wrapping_mul(0x9E37_79B9_7F4A_7C15) | 1)
+    }
+
+    /// A number below n.
+    fn below(&mut self, n: u64) -> u64 {
+        self.0 ^= self.0 >> 12;
+        self.0 ^= self.0 << 25;
+        self.0 ^= self.0 >> 27;
+        (self.0.wrapping_mul(0x2545_F491_4F6C_DD1D) >> 33) % n
+    }
+}
+
+#[derive(Clone, Copy)]
+pub struct Family {
+    pub threads: u64,
+    pub cells: u64,
+    pub dense: bool,
+}
+
+impl Family {
+    pub fn name(self) -> String {
+        let locks = if self.dense { "dense" } else { "sparse" };
+        format!("{} | {} | {locks}", self.threads, self.cells)
+    }
+
+    /// The family of recordings: 2, 4 and 8 threads, 4 and 64 cells, sparse and dense locks.
+    pub fn all() -> Vec<Family> {
+        let mut all = Vec::new();
+        for threads in [2, 4, 8] {
+            for cells in [4, 64] {
+                for dense in [false, true] {
+                    all.push(Family {
+                        threads,
+                        cells,
+                        dense,
+                    });
+                }
+            }
+        }
+        all
+    }
+
+    /// A recording of n events. A thread outside any section enters one in one step of 16 (sparse) or of 3
+    /// (dense), if the lock it wants is free; inside, it leaves in one step of 4. All other steps are accesses,
+    /// one in three a write.
+    pub fn recording(self, n: usize, seed: u64) -> Vec<u8> {
+        let mut r = Random::new(seed);
+        let mut holds = vec![None; self.threads as usize];
+        let mut file = Vec::new();
+        for _ in 0..n {
+            let thread = r.below(self.threads);
+            let (kind, object) = self.step(&mut r, &mut holds, thread as usize);
+            file.extend_from_slice(&[thread as u8, kind, object as u8, 0]);
+        }
+        file.extend_from_slice(&(8 + 4 * n as u32).to_le_bytes());
+        file.extend_from_slice(&(n as u16).to_le_bytes());
+        file.extend_from_slice(&[0x50, 0x4C]);
+        file
+    }
+
+    fn step(self, r: &mut Random, holds: &mut [Option<u64>], thread: usize) -> (u8, u64) {
+        if let Some(lock) = holds[thread] {
+            if r.below(4) == 0 {
+                holds[thread] = None;
+                return (4, lock);
+            }
+        } else if r.below(if self.dense { 3 } else { 16 }) == 0 {
+            let lock = r.below(4);
+            if !holds.contains(&Some(lock)) {
+                holds[thread] = Some(lock);
+                return (3, lock);
+            }
+        }
+        let kind = if r.below(3) == 0 { 2 } else { 1 };
+        (kind, r.below(self.cells))
+    }
+}

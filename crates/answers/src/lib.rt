@@ -1,0 +1,181 @@
+// The answers to questions 2 to 6, as text, and what questions 3 and 4 leave of what they borrow.
+use limits::Trace;
+use questions::Check;
+use questions::Finding;
+use questions::Next;
+use questions::Observed;
+use text::bar;
+use text::byte;
+use text::count;
+use text::number;
+use text::refused;
+use text::word;
+ghost use Prim.Native.Nat.{_≤_};
+
+// What each entry of a lent list and each byte of a work area hold beforehand.
+pub const ENTRY: u16 = 9999;
+
+const BYTE: u8 = 170;
+
+// The most entries and bytes that are lent.
+const ENTRIES: usize = 600;
+
+const BYTES: usize = 65544;
+
+pub fn at_most(n: usize, most: usize) -> usize
+    ensures { λ r. ⌜ r ≤ most ⌝ }
+{
+    if most < n {
+        return most;
+    }
+    n
+}
+
+// Question 2: the number of the write, the start, or '-' for what is not a read.
+pub fn observed(file: &[u8], k: u16) {
+    match questions::observed_write(file, k) {
+        Observed::Refused(r) => refused(r),
+        Observed::Write(w) => number(w as u64),
+        Observed::Start => word(b"start"),
+        Observed::NotARead => byte(b'-'),
+    }
+}
+
+// Question 3 with a work area of just the bytes that it needs.
+pub fn verdict(file: &[u8], a: u16, b: u16, list: &mut [u16]) -> Finding {
+    let mut area = [BYTE; Trace::AREA_BYTES];
+    questions::verdict(file, a, b, list, &mut area)
+}
+
+pub fn say_finding(f: Finding, list: &[u16]) {
+    match f {
+        Finding::Refused(r) => refused(r),
+        Finding::NotReported => word(b"not reported"),
+        Finding::Reported { length } => {
+            count(b"reported ", length as u64);
+            byte(b':');
+            text::list(list, length);
+        }
+    }
+}
+
+// Question 4 with a work area of just the bytes that it needs.
+pub fn next(file: &[u8], a: u16, b: u16) -> Next {
+    let mut area = [BYTE; Trace::AREA_BYTES];
+    questions::next_race(file, a, b, &mut area)
+}
+
+pub fn say_next(n: Next) {
+    match n {
+        Next::Refused(r) => refused(r),
+        Next::NoRace => word(b"none"),
+        Next::Race { lower, higher } => text::pair(lower, higher),
+    }
+}
+
+// Question 5.
+pub fn check(file: &[u8], a: u16, b: u16, list: &[u16]) {
+    match questions::check_reordering(file, a, b, list) {
+        Check::Refused(r) => refused(r),
+        Check::Yes => word(b"yes"),
+        Check::No(fault) => count(b"no ", fault as u64),
+    }
+}
+
+// Question 6: the note's length, and at most 20 bytes of it.
+pub fn note<'a>(file: &'a [u8], operator: &'a [u8]) {
+    let note = questions::note(file, operator);
+    count(b"note ", note.len() as u64);
+    if note.len() == 0 {
+        return;
+    }
+    byte(b' ');
+    let n = at_most(20, note.len());
+    text::hex(&note[0..n]);
+}
+
+fn one(b: bool) -> u64
+    ensures { λ r. ⌜ r ≤ 1 ⌝ }
+{
+    if b {
+        return 1;
+    }
+    0
+}
+
+// How many entries of a lent list are as they were lent.
+fn entries_left(list: &[u16]) -> u64 {
+    let mut n = 0u64;
+    let mut i = 0;
+    while i < list.len() {
+        n += one(list[i] == ENTRY);
+        i += 1;
+    }
+    n
+}
+
+// How many bytes of a work area are zero.
+fn zero_bytes(area: &[u8]) -> u64 {
+    let mut n = 0u64;
+    let mut i = 0;
+    while i < area.len() {
+        n += one(area[i] == 0);
+        i += 1;
+    }
+    n
+}
+
+fn say_left(list: &[u16]) {
+    count(b"; ", entries_left(list));
+    count(b" of ", list.len() as u64);
+    word(b" entries as lent, ");
+}
+
+fn say_zero(area: &[u8]) {
+    number(zero_bytes(area));
+    count(b" of ", area.len() as u64);
+    word(b" bytes zero");
+}
+
+// Question 3 with a list of so many entries and an area of so many bytes, and what is left of them.
+pub fn ask_verdict(file: &[u8], a: u16, b: u16, entries: u16, bytes: usize) {
+    let mut entries_lent = [ENTRY; ENTRIES];
+    let mut bytes_lent = [BYTE; BYTES];
+    let e = at_most(entries as usize, ENTRIES);
+    let n = at_most(bytes, BYTES);
+    let list = &mut entries_lent[0..e];
+    let area = &mut bytes_lent[0..n];
+    let f = questions::verdict(file, a, b, list, area);
+    say_finding(f, list);
+    say_left(list);
+    say_zero(area);
+}
+
+// Question 4 with an area of so many bytes, and what is left of it.
+pub fn ask_next(file: &[u8], a: u16, b: u16, bytes: usize) {
+    let mut bytes_lent = [BYTE; BYTES];
+    let n = at_most(bytes, BYTES);
+    let area = &mut bytes_lent[0..n];
+    say_next(questions::next_race(file, a, b, area));
+    word(b"; ");
+    say_zero(area);
+}
+
+// Questions 3, 4 and 5, as a refused recording is asked them: of (1, 2), from (0, 0) on, and of (1, 2) with the empty list.
+pub fn of_a_pair(file: &[u8]) {
+    let mut list = [ENTRY; Trace::MAX_EVENTS];
+    let f = verdict(file, 1, 2, &mut list);
+    say_finding(f, &list);
+    bar();
+    say_next(next(file, 0, 0));
+    bar();
+    check(file, 1, 2, &list[0..0]);
+}
+
+// Question 6 of a line; the operator's note follows "?6" and a space.
+pub fn ask_note(file: &[u8], line: &[u8]) {
+    let mut operator = [0u8; 64];
+    let start = at_most(2, line.len());
+    let n = text::bytes(&line[start..], &mut operator);
+    note(file, &operator[0..n]);
+}

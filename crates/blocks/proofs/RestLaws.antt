@@ -1,0 +1,174 @@
+-- The rest of a report, race by race.
+use Prim.Native.Nat.{ℕ, zero, suc, _+_, _*_, _≤_, _<_}
+use native.Mathlib.Omega.{arith}
+use native.Mathlib.Nat.{mul-suc}
+use mathlib.Core.Path.{_≡_, refl, _∙_, ap}
+use mathlib.Core.Logic.{inl, inr, ⊎-elim}
+use mathlib.Core.Bool.{true, false, _&&_}
+use mathlib.Core.Option.{Option, none, some}
+use mathlib.Core.List.{List, [], _∷_, _++_, append-assoc, List·Memᴰ, List·Memᴰ·head, List·Memᴰ·tail}
+use lib.ListN.{length, length-append, length-reverse}
+use lib.Dec.{eqb, ltb}
+use borrow.Author.Tests.{eqb-true, eq-eqb, ltb-true, lt-ltb}
+use Rattle.model.specs.Trace.{Trace}
+use Rattle.model.specs.Lists.{upTo, numbers}
+use Rattle.model.specs.Good.{WellFormed, maxEvents}
+use Rattle.model.specs.Listing.{Race, After, Sorted}
+use Rattle.model.specs.Decision.{witness, isConflicting, raceWith, raceOn, each, races, isAfter, firstAfter, nextRace}
+use Rattle.model.proofs.Tests.{by-cases, both, true-both, either-true, true-either, false-test}
+use Rattle.model.proofs.ListingExact.{races-listing}
+use Rattle.lines.specs.Lines.{raceLine, racesLine}
+use Rattle.blocks.specs.Rest.{raceLines, racesAfter, racesLeft, rest, linesLeft, Stands, start}
+use Rattle.blocks.specs.declared.Place.{Place}
+
+-- ---- the races of a list after two numbers
+
+after-true : (a b : ℕ) (x : Race) → isAfter a b x ≡ true → After a b x
+unfolding isAfter
+after-true a b x e =
+    ⊎-elim (λ p. inl (ltb-true a (x .lower) p))
+    (λ p. let q = both (eqb a (x .lower)) (ltb b (x .higher)) p in inr (eqb-true a (x .lower) (q .0), ltb-true b (x .higher) (q .1)))
+    (either-true (ltb a (x .lower)) (eqb a (x .lower) && ltb b (x .higher)) e)
+
+true-after : (a b : ℕ) (x : Race) → After a b x → isAfter a b x ≡ true
+unfolding isAfter
+true-after a b x c =
+    true-either (ltb a (x .lower)) (eqb a (x .lower) && ltb b (x .higher))
+    (⊎-elim (λ p. inl (lt-ltb a (x .lower) p)) (λ p. inr (true-both (eq-eqb a (x .lower) (p .0)) (lt-ltb b (x .higher) (p .1)))) c)
+
+-- where y does not come before x, it does not come after it either, or is x
+not-after : (x y : Race) → ¬ After (x .lower) (x .higher) y → isAfter (x .lower) (x .higher) y ≡ false
+not-after x y n = false-test (after-true (x .lower) (x .higher) y) n
+
+not-before : (x y : Race) → After (y .lower) (y .higher) x → ¬ After (x .lower) (x .higher) y
+not-before x y f g = ⊎-elim (λ p. ⊎-elim (λ q. omega arith) (λ q. omega arith) g) (λ p. ⊎-elim (λ q. omega arith) (λ q. omega arith) g) f
+
+not-own : (x : Race) → ¬ After (x .lower) (x .higher) x
+not-own x f = ⊎-elim (λ p. omega arith) (λ p. let q = p .1 in omega arith) f
+
+-- all races of a list that come after (a, b)
+all-after : (a b : ℕ) (l : List Race) → ((y : Race) → List·Memᴰ y l → After a b y) → racesAfter a b l ≡ l
+all-after a b [] f = refl
+all-after a b (x ∷ l) f = rw (true-after a b x (f x (List·Memᴰ·head refl)))
+
+module _ (a b : ℕ) where
+  none-after : (l : List Race) → firstAfter a b l ≡ none → racesAfter a b l ≡ []
+  none-after [] e = refl
+  none-after (y ∷ l) e =
+      by-cases (isAfter a b y)
+      (λ p. let d : _≡_ {A = Option Race} (some y) none = rw p at e in let z : _≡_ {A = ℕ} 0 1 = cc in absurd (omega arith))
+      (λ p. rw p (none-after l (rw p at e)))
+
+  first-in : (l : List Race) (x : Race) → firstAfter a b l ≡ some x → List·Memᴰ x l
+  first-in [] x e = let z : _≡_ {A = ℕ} 0 1 = cc in absurd (omega arith)
+  first-in (y ∷ l) x e =
+      by-cases (isAfter a b y)
+      (λ p. let d : _≡_ {A = Option Race} (some y) (some x) = rw p at e in List·Memᴰ·head (cc))
+      (λ p. List·Memᴰ·tail (first-in l x (rw p at e)))
+
+  -- the first of them, and those after it
+  first-after : (l : List Race) → Sorted l → (x : Race) → firstAfter a b l ≡ some x → racesAfter a b l ≡ x ∷ racesAfter (x .lower) (x .higher) l
+  first-after [] s x e = let z : _≡_ {A = ℕ} 0 1 = cc in absurd (omega arith)
+  first-after (y ∷ l) s x e =
+      by-cases (isAfter a b y)
+      (λ p.
+      let d : _≡_ {A = Option Race} (some y) (some x) = rw p at e in
+      let q : y ≡ x = cc in
+      rw (p, ← q, not-after y y (not-own y), all-after (y .lower) (y .higher) l (s .0)))
+      (λ p.
+      let m = first-in l x (rw p at e) in
+      rw (p, not-after x y (not-before x y (s .0 x m))) (first-after l (s .1) x (rw p at e)))
+
+-- ---- how many races there may be
+
+each-few : (f : ℕ → List Race) (c : ℕ) → ((k : ℕ) → length (f k) ≤ c) → (l : List ℕ) → length (each f l) ≤ c * length l
+each-few f c h [] = omega arith
+each-few f c h (k ∷ l) =
+    let ih = each-few f c h l in
+    let g = h k in
+    let n = length-append (f k) (each f l) in
+    let m = mul-suc c (length l) in
+    omega arith
+
+length-upTo : (n : ℕ) → length (upTo n) ≡ n
+length-upTo zero = refl
+length-upTo (suc n) = ap suc (length-upTo n)
+
+length-numbers : (t : Trace) → length (numbers t) ≡ length t
+length-numbers t = length-reverse (upTo (length t)) ∙ length-upTo (length t)
+
+one-race : (t : Trace) (a b : ℕ) → length (raceOn t a b) ≤ 1
+unfolding raceOn
+one-race t a b = by-cases (isConflicting t a b) (λ e. rw e (go (witness t a b))) (λ e. rw e (omega arith))
+  where
+    go : (o : Option (List ℕ)) → length (raceWith a b o) ≤ 1
+    go none = omega arith
+    go (some ρ) = omega arith
+
+few-races : (t : Trace) → length t ≤ maxEvents → length (races t) ≤ maxEvents * maxEvents
+unfolding races
+few-races t h =
+    let n = length-numbers t in
+    let r = each-few (λ a. each (λ b. raceOn t a b) (numbers t)) maxEvents (λ a. let m = each-few (λ b. raceOn t a b) 1 (one-race t a) (numbers t) in omega arith) (numbers t) in
+    omega arith
+
+-- ---- what a place has before it
+
+-- the last line is always left
+pub some-line : (t : Trace) (p : Place) → 0 < linesLeft t p
+unfolding linesLeft
+some-line t p = omega arith
+
+module _ (t : Trace) (w : WellFormed t) where
+  start-left : racesLeft t start ≡ races t
+  unfolding racesLeft
+  start-left = all-after 0 0 (races t) (λ y m. let v = races-listing t w .members y .0 m .conflicting .apart .first .positive in inl (omega arith))
+
+  -- at the start the rest is all but the first line
+  pub start-rest : rest t start ≡ raceLines (races t) ++ racesLine (length (races t))
+  unfolding rest
+  start-rest = rw start-left
+
+  pub start-stands : Stands t start
+  unfolding Stands
+  start-stands = rw start-left (omega arith)
+
+  module _ (p : Place) where
+    -- no more races: the last line is left
+    module _ (e : nextRace t (p .lower) (p .higher) ≡ none) where
+      none-left : racesLeft t p ≡ []
+      unfolding racesLeft nextRace
+      none-left = none-after (p .lower) (p .higher) (races t) e
+
+      pub rest-end : rest t p ≡ racesLine (length (races t))
+      unfolding rest
+      rest-end = rw none-left
+
+      pub count-end : Stands t p → p .count ≡ length (races t)
+      unfolding Stands
+      count-end s = let z : p .count + 0 ≡ length (races t) = rw none-left at s in omega arith
+
+    -- a race: its line, and the rest after it
+    module _ (x : Race) (e : nextRace t (p .lower) (p .higher) ≡ some x) (k : ℕ) where
+      abbrev next-place : Place
+      next-place = record { lower = x .lower; higher = x .higher; count = k }
+
+      one-left : racesLeft t p ≡ x ∷ racesLeft t next-place
+      unfolding racesLeft nextRace
+      one-left = first-after (p .lower) (p .higher) (races t) (races-listing t w .sorted) x e
+
+      pub rest-race : rest t p ≡ raceLine (x .lower) (x .higher) (x .witness) ++ rest t next-place
+      unfolding rest
+      rest-race = rw (one-left, append-assoc)
+
+      pub fewer-lines : linesLeft t next-place < linesLeft t p
+      unfolding linesLeft
+      fewer-lines = let n = ap length one-left in omega arith
+
+      pub stands-next : Stands t p → k ≡ p .count + 1 → Stands t next-place
+      unfolding Stands
+      stands-next s c = let n = ap length one-left in omega arith
+
+      pub count-few : length t ≤ maxEvents → Stands t p → p .count < maxEvents * maxEvents
+      unfolding Stands
+      count-few h s = let n = ap length one-left in let f = few-races t h in omega arith

@@ -1,0 +1,41 @@
+-- What is left of the report of a good file after some of its lines.
+use Prim.Native.Nat.{ℕ, suc, _+_}
+use mathlib.Core.Path.{_≡_}
+use mathlib.Core.Bool.{cond}
+use mathlib.Core.List.{List, [], _∷_, _++_}
+use lib.ListN.{length}
+use Rattle.model.specs.Trace.{Trace}
+use Rattle.model.specs.Listing.{Race}
+use Rattle.model.specs.Decision.{races, isAfter}
+use Rattle.lines.specs.Lines.{raceLine, racesLine}
+use Rattle.blocks.specs.declared.Place.{Place}
+
+-- a line for each race
+abbrev pub raceLines : List Race → List ℕ
+raceLines [] = []
+raceLines (x ∷ l) = raceLine (x .lower) (x .higher) (x .witness) ++ raceLines l
+
+-- the races of a list from the first that comes after (a, b) on
+abbrev pub racesAfter : ℕ → ℕ → List Race → List Race
+racesAfter a b [] = []
+racesAfter a b (x ∷ l) = cond (isAfter a b x) (x ∷ l) (racesAfter a b l)
+
+-- those of a trace that a place has before it
+unfoldable pub racesLeft : Trace → Place → List Race
+racesLeft t p = racesAfter (p .lower) (p .higher) (races t)
+
+-- the report of a good file from a place on
+unfoldable pub rest : Trace → Place → List ℕ
+rest t p = raceLines (racesLeft t p) ++ racesLine (length (races t))
+
+-- how many lines that is
+unfoldable pub linesLeft : Trace → Place → ℕ
+linesLeft t p = suc (length (racesLeft t p))
+
+-- a place's count is the number of races behind it
+unfoldable pub Stands : Trace → Place → Type 0
+Stands t p = p .count + length (racesLeft t p) ≡ length (races t)
+
+-- the place in front of the first race
+abbrev pub start : Place
+start = record { lower = 0; higher = 0; count = 0 }

@@ -1,0 +1,11 @@
+-- What reading the input gives.
+use Prim.Native.Nat.{ℕ, _≤_}
+use mathlib.Core.List.{List}
+use lib.ListN.{length}
+use Rattle.nightly.specs.declared.Input.{Input}
+use Rattle.nightly.specs.declared.Input.the-variants.{Failed, Bytes}
+
+-- the bytes that were read stand in the front of a buffer
+unfoldable pub Within : Input → List ℕ → Type 0
+Within Failed s = Unit {0}
+Within (Bytes n) s = n ≤ length s

@@ -1,0 +1,2 @@
+-- The input of the nightly program.
+pub mod Input

@@ -1,0 +1,34 @@
+-- The report of the paper's worked example Q, computed from the bytes of its file.
+use Prim.Native.Nat.{ℕ}
+use mathlib.Core.Path.{_≡_, refl}
+use mathlib.Core.List.{List, [], _∷_, _++_}
+use Rattle.model.specs.Trace.{does}
+use Rattle.model.specs.Lists.{listed, is, but, threads}
+use Rattle.model.specs.Observed.{observed}
+use Rattle.model.specs.Cone.{givesBack, matching}
+use Rattle.model.specs.Check.{isValid, isFree}
+use Rattle.model.specs.Refusals.{eventRefusal, refusalIn, refusal}
+use Rattle.model.specs.Rounds.{brought, rounds, isEarlier, isRooted, isObserved, isExempt, isClosing, brings, cone}
+use Rattle.model.specs.Grid.{sawOther, sawNone, readStep, writeStep, lockStep, mayStep, stepAt, path}
+use Rattle.model.specs.Decision.{shownFor, isAccess, isConflicting, raceOn, races}
+use Rattle.format.specs.Bytes.{eventsFrom, traceOf}
+use Rattle.format.specs.Layout.{distance, count, start, eventPart, events, isMarked, isPointed, layoutRefusal}
+use Rattle.judging.specs.Judged.{fileRefusal}
+use Rattle.lines.specs.Lines.{decimal, eventsLine, raceHead, raceLine, racesLine}
+use Rattle.report.specs.Report.{report}
+
+-- the paper's bytes of Q: eight events of four bytes, and the trailer
+abbrev pub qBytes : List ℕ
+qBytes =
+    0x00 ∷ 0x02 ∷ 0x01 ∷ 0x00 ∷ 0x00 ∷ 0x03 ∷ 0x00 ∷ 0x00 ∷ 0x00 ∷ 0x01 ∷ 0x00 ∷ 0x00 ∷ 0x00 ∷ 0x04 ∷ 0x00 ∷ 0x00
+    ∷ 0x01 ∷ 0x03 ∷ 0x00 ∷ 0x00 ∷ 0x01 ∷ 0x01 ∷ 0x00 ∷ 0x00 ∷ 0x01 ∷ 0x04 ∷ 0x00 ∷ 0x00 ∷ 0x01 ∷ 0x01 ∷ 0x01 ∷ 0x00
+    ∷ 0x28 ∷ 0x00 ∷ 0x00 ∷ 0x00 ∷ 0x08 ∷ 0x00 ∷ 0x50 ∷ 0x4C ∷ []
+
+-- "events 8 threads 2", "race 1 8 witness 5 6 7" and "races 1"
+pub report-of-q : report qBytes ≡ eventsLine 8 2 ++ (raceLine 1 8 (5 ∷ 6 ∷ 7 ∷ []) ++ racesLine 1)
+unfolding does listed is but threads observed givesBack matching isValid isFree eventRefusal refusalIn refusal
+    brought rounds isEarlier isRooted isObserved isExempt isClosing brings cone sawOther sawNone readStep writeStep lockStep mayStep stepAt path
+    shownFor isAccess isConflicting raceOn races
+    eventsFrom traceOf distance count start eventPart events isMarked isPointed layoutRefusal fileRefusal
+    decimal eventsLine raceHead raceLine racesLine report
+report-of-q = refl

@@ -1,0 +1,3 @@
+-- The nightly report.
+pub mod Report
+pub mod Whole

@@ -1,0 +1,322 @@
+//! The vectors' two texts: each line asked, and the line that answers it.
+
+use crate::questions::{Asked, Verdict, AREA};
+use crate::recording::{Event, Refusal};
+use crate::rules::{fits_after, Seen};
+use crate::study::{Pair, Study};
+use std::collections::BTreeMap;
+
+pub struct Book {
+    pub stdin: String,
+    pub stdout: String,
+    pub counts: BTreeMap<String, usize>,
+    pub asked: Asked,
+    /// The random recordings, for the confirmations.
+    pub random: Vec<Vec<Event>>,
+    group: &'static str,
+}
+
+impl Book {
+    pub fn new() -> Book {
+        Book {
+            stdin: String::new(),
+            stdout: String::new(),
+            counts: BTreeMap::new(),
+            asked: Asked::new(Vec::new()),
+            random: Vec::new(),
+            group: "none",
+        }
+    }
+
+    fn line(&mut self, asked: &str, answer: &str) {
+        assert!(asked.len() <= 16_000, "a line too long");
+        self.stdin.push_str(asked);
+        self.stdin.push('\n');
+        self.stdout.push_str(answer);
+        self.stdout.push('\n');
+    }
+
+    fn count(&mut self, what: String) {
+        *self.counts.entry(what).or_insert(0) += 1;
+    }
+
+    /// Begins a group of vectors.
+    pub fn group(&mut self, group: &'static str) {
+        self.group = group;
+        self.title(group);
+    }
+
+    pub fn title(&mut self, words: &str) {
+        let line = format!("= {words}");
+        self.line(&line, &line);
+    }
+
+    /// Takes a recording to ask about and writes down what is said of it.
+    pub fn recording(&mut self, bytes: &[u8]) {
+        self.asked = Asked::new(bytes.to_vec());
+        let answer = match &self.asked.judged {
+            Err(refusal) => refused_line(refusal),
+            Ok(study) => good_line(&self.asked, study),
+        };
+        self.line(&hex_words(bytes), &answer);
+        self.count(format!("recordings of {}", self.group));
+        self.count_verdicts();
+    }
+
+    fn count_verdicts(&mut self) {
+        let study = match &self.asked.judged {
+            Ok(study) => study,
+            Err(refusal) => {
+                let number = refusal.number;
+                return self.count(format!("refusal {number:2} of files"));
+            }
+        };
+        let by = study.threads;
+        let mut words = vec![format!("good recordings by {by:2} threads")];
+        for pair in &study.pairs {
+            words.push(match (&pair.shown, pair.predictable) {
+                (Some(_), _) => format!("pairs reported, by {by:2} threads"),
+                (None, Some(true)) => format!("pairs predictable, not reported, by {by:2} threads"),
+                (None, Some(false)) => format!("pairs not predictable, by {by:2} threads"),
+                (None, None) => format!("pairs not reported (long), by {by:2} threads"),
+            });
+        }
+        words.extend(study.pairs.iter().flat_map(|p| confirmed(study, p)));
+        words.extend(study.pairs.iter().flat_map(|p| shape(study, p)));
+        for word in words {
+            self.count(word);
+        }
+    }
+
+    /// The recording asked about; none if it is refused.
+    pub fn study(&self) -> Option<&Study> {
+        self.asked.judged.as_ref().ok()
+    }
+
+    pub fn ask2(&mut self, number: usize) {
+        let answer = seen_or_refused(self.asked.observed(number));
+        self.count_asking(2, &answer);
+        self.line(&format!("?2 {number}"), &answer);
+    }
+
+    pub fn ask3(&mut self, a: usize, b: usize, entries: usize, area: usize) {
+        let mut lent = vec![9999u16; entries];
+        let mut work = vec![170u8; area];
+        let said = self.asked.verdict((a, b), &mut lent, &mut work);
+        let said = match said {
+            Ok(Verdict::Reported(length)) => {
+                let numbers: String = lent[..length].iter().map(|e| format!(" {e}")).collect();
+                format!("reported {length}:{numbers}")
+            }
+            Ok(Verdict::NotReported) => "not reported".to_string(),
+            Err(refusal) => refusal.words(),
+        };
+        self.count_asking(3, said.split(':').next().unwrap_or(""));
+        let kept = lent.iter().filter(|e| **e == 9999).count();
+        let zero = work.iter().filter(|b| **b == 0).count();
+        let places = format!("; {kept} of {entries} entries as lent, {zero} of {area} bytes zero");
+        self.line(&format!("?3 {a} {b} {entries} {area}"), &(said + &places));
+    }
+
+    pub fn ask4(&mut self, a: usize, b: usize, area: usize) {
+        let mut work = vec![170u8; area];
+        let said = match self.asked.next_race((a, b), &mut work) {
+            Ok(Some((a, b))) => format!("{a} {b}"),
+            Ok(None) => "none".to_string(),
+            Err(refusal) => refusal.words(),
+        };
+        self.count_asking(4, &said);
+        let zero = work.iter().filter(|b| **b == 0).count();
+        let answer = format!("{said}; {zero} of {area} bytes zero");
+        self.line(&format!("?4 {a} {b} {area}"), &answer);
+    }
+
+    pub fn ask5(&mut self, a: usize, b: usize, list: &[usize]) {
+        assert!(list.len() <= 600, "a list too long");
+        let answer = fault_or_refused(self.asked.check(a, b, list));
+        self.count_asking(5, &answer);
+        let numbers: String = list.iter().map(|e| format!(" {e}")).collect();
+        self.line(&format!("?5 {a} {b}{numbers}"), &answer);
+    }
+
+    pub fn ask6(&mut self, operator: &[u8]) {
+        assert!(operator.len() <= 64, "a note too long");
+        let answer = note_words(self.asked.note(operator));
+        self.count("asked question 6".to_string());
+        let asked = if operator.is_empty() {
+            "?6".to_string()
+        } else {
+            format!("?6 {}", hex(operator))
+        };
+        self.line(&asked, &answer);
+    }
+
+    fn count_asking(&mut self, question: u8, answer: &str) {
+        self.count(format!("asked question {question}"));
+        let first = answer.split(' ').next().unwrap_or("");
+        let word = match first {
+            "refused" => answer.split(" at ").next().unwrap_or("").to_string(),
+            "no" => answer.to_string(),
+            "reported" | "not" | "none" | "yes" | "start" | "-" => first.to_string(),
+            _ => "numbers".to_string(),
+        };
+        self.count(format!("answers to question {question}: {word}"));
+    }
+}
+
+/// What was confirmed of a pair while it was studied.
+fn confirmed(study: &Study, pair: &Pair) -> Vec<String> {
+    let mut words = Vec::new();
+    if pair.shown.is_some() {
+        words.push("confirmed: the list shown is correct and brings both next");
+    }
+    if pair.shown.is_some() && pair.predictable.is_some() {
+        words.push("confirmed: reported, and found predictable by listing everything");
+    }
+    if study.threads <= 2 && pair.predictable.is_some() {
+        words.push("confirmed: by two threads, reported exactly if predictable");
+    }
+    words.into_iter().map(str::to_string).collect()
+}
+
+/// What is special about a list shown; only to see that the vectors are varied.
+fn shape(study: &Study, pair: &Pair) -> Vec<String> {
+    let Some(list) = &pair.shown else {
+        return Vec::new();
+    };
+    let events = study.events();
+    let moved = events[pair.a - 1].thread;
+    let own: Vec<bool> = list
+        .iter()
+        .map(|e| events[*e - 1].thread == moved)
+        .collect();
+    let mut words = Vec::new();
+    if own.windows(2).any(|two| two[0] && !two[1]) {
+        words.push("lists shown with an event of the moved thread before others");
+    }
+    if list.windows(2).any(|two| two[0] > two[1]) {
+        words.push("lists shown that are not in the recorded order");
+    }
+    let mut waits = false;
+    for (i, _) in list.iter().enumerate().filter(|(i, _)| own[*i]) {
+        let other = (i..list.len()).find(|j| !own[*j]).map(|j| list[j]);
+        waits |= other.is_some_and(|e| fits_after(events, &list[..i], e));
+    }
+    if waits {
+        words.push("lists shown where another event fitted but led nowhere");
+    }
+    words.into_iter().map(str::to_string).collect()
+}
+
+fn refused_line(refusal: &Refusal) -> String {
+    let words = refusal.words();
+    format!("{words} | {words} | {words} | {words} | {words} | note 0")
+}
+
+fn good_line(asked: &Asked, study: &Study) -> String {
+    let (n, threads) = asked.good().expect("a good recording");
+    let seen: Vec<String> = (0..=n + 1)
+        .map(|k| seen_or_refused(asked.observed(k)))
+        .collect();
+    let (races, count) = races_words(asked);
+    let mut fields = vec![
+        format!("events {n} threads {threads}"),
+        seen.join(" "),
+        note_words(asked.note(b"o")),
+        races,
+        format!("races {count}"),
+    ];
+    if (2..=16).contains(&n) {
+        fields.push(verdict_signs(study));
+    }
+    fields.join(" | ")
+}
+
+/// The races by question 4 from (0, 0) on, each with its witness and what question 5 says to it.
+fn races_words(asked: &Asked) -> (String, usize) {
+    let mut races = Vec::new();
+    let mut area = vec![170u8; AREA];
+    let mut entries = vec![9999u16; 512];
+    let mut last = (0, 0);
+    while let Ok(Some((a, b))) = asked.next_race(last, &mut area) {
+        last = (a, b);
+        let Ok(Verdict::Reported(length)) = asked.verdict(last, &mut entries, &mut area) else {
+            panic!("question 4 gives a pair that question 3 does not report");
+        };
+        let list: Vec<usize> = entries[..length].iter().map(|e| *e as usize).collect();
+        let numbers: String = list.iter().map(|e| format!(" {e}")).collect();
+        let said = fault_or_refused(asked.check(a, b, &list));
+        assert_eq!(said, "yes");
+        races.push(format!("{a} {b}:{numbers} {said}"));
+    }
+    match races.len() {
+        0 => ("none".to_string(), 0),
+        count => (races.join("; "), count),
+    }
+}
+
+fn verdict_signs(study: &Study) -> String {
+    let n = study.events().len();
+    let mut signs = String::new();
+    for a in 1..=n {
+        for b in a + 1..=n {
+            signs.push(match study.pair(a, b) {
+                None => '.',
+                Some(pair) if pair.shown.is_some() => '+',
+                Some(_) => '-',
+            });
+        }
+    }
+    signs
+}
+
+fn seen_or_refused(seen: Result<Seen, Refusal>) -> String {
+    match seen {
+        Ok(Seen::Write(write)) => write.to_string(),
+        Ok(Seen::Start) => "start".to_string(),
+        Ok(Seen::NotARead) => "-".to_string(),
+        Err(refusal) => refusal.words(),
+    }
+}
+
+fn fault_or_refused(said: Result<Option<u8>, Refusal>) -> String {
+    match said {
+        Ok(None) => "yes".to_string(),
+        Ok(Some(fault)) => format!("no {fault}"),
+        Err(refusal) => refusal.words(),
+    }
+}
+
+fn note_words(note: &[u8]) -> String {
+    if note.is_empty() {
+        return "note 0".to_string();
+    }
+    let front = &note[..note.len().min(20)];
+    format!("note {} {}", note.len(), hex(front))
+}
+
+pub fn hex(bytes: &[u8]) -> String {
+    bytes.iter().map(|b| format!("{b:02X}")).collect()
+}
+
+/// The bytes as words of four, counted from the end of the file so that events and trailer are
+/// words of their own; three or more equal words in a row are written once with their count.
+pub fn hex_words(bytes: &[u8]) -> String {
+    let (front, rest) = bytes.split_at(bytes.len() % 4);
+    let mut words: Vec<String> = rest.chunks(4).map(hex).collect();
+    if !front.is_empty() {
+        words.insert(0, hex(front));
+    }
+    let mut folded: Vec<String> = Vec::new();
+    let mut at = 0;
+    while at < words.len() {
+        let run = words[at..].iter().take_while(|w| **w == words[at]).count();
+        if run >= 3 {
+            folded.push(format!("{run}*{}", words[at]));
+        } else {
+            folded.extend(words[at..at + run].iter().cloned());
+        }
+        at += run;
+    }
+    folded.join(" ")
+}

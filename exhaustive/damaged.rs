@@ -1,0 +1,343 @@
+//! Group 5: damaged files, each refusal 1 to 9 at each of its edges, and two damages at once.
+
+use crate::book::Book;
+use crate::chance::Chance;
+use crate::questions::AREA;
+use crate::random::random_events;
+use crate::recording::{acq, event_bytes, file, r, rel, told, trailer, w, Event};
+use crate::short::every;
+use crate::worked::{Q, R};
+
+/// A file in parts, each of which may be wrong.
+#[derive(Clone)]
+struct Raw {
+    preamble: Vec<u8>,
+    events: Vec<[u8; 4]>,
+    trailer: [u8; 8],
+}
+
+impl Raw {
+    fn new(preamble: &[u8], events: &[Event]) -> Raw {
+        let n = events.len();
+        Raw {
+            preamble: preamble.to_vec(),
+            events: events.iter().map(event_bytes).collect(),
+            trailer: trailer(8 + 4 * n as u32, n as u16),
+        }
+    }
+
+    fn bytes(&self) -> Vec<u8> {
+        [&self.preamble, &self.events.concat(), &self.trailer[..]].concat()
+    }
+
+    fn set_count(&mut self, count: u16) {
+        self.trailer[4..6].copy_from_slice(&count.to_le_bytes());
+    }
+
+    fn set_distance(&mut self, distance: u32) {
+        self.trailer[..4].copy_from_slice(&distance.to_le_bytes());
+    }
+}
+
+pub fn write(book: &mut Book) {
+    book.group("group 5: damaged files");
+    sizes(book);
+    marks(book);
+    counts(book);
+    distances(book);
+    fields(book);
+    locks(book);
+    two_at_once(book);
+    at_random(book);
+}
+
+fn sizes(book: &mut Book) {
+    book.title("refusal 1: sizes 0 to 9 and 4,095 to 4,097");
+    let empty = file(&[], &[]);
+    for size in 0..=9 {
+        book.recording(&vec![0; size]);
+        book.recording(&vec![0xFF; size]);
+        let longer = [&[0x2E][..], &empty].concat();
+        book.recording(&longer[9 - size..]);
+    }
+    for size in [4095, 4096, 4097, 4098, 5000] {
+        book.recording(&vec![0; size]);
+        for n in [0, 1, 2, 511, 512, 513] {
+            let events = vec![r(0, 0); n];
+            book.recording(&file(&vec![0x20; size - 8 - 4 * n], &events));
+        }
+    }
+    book.title("refusal 1: beginnings and ends of Q");
+    let whole = file(&[], &told(Q));
+    for size in 0..8 {
+        book.recording(&whole[..size]);
+        book.recording(&whole[whole.len() - size..]);
+    }
+    ask_of_refused(book);
+}
+
+/// The questions asked of a refused file all give its refusal.
+fn ask_of_refused(book: &mut Book) {
+    book.ask2(1);
+    book.ask3(1, 8, 8, AREA);
+    book.ask3(0, 0, 0, 0);
+    book.ask4(0, 0, AREA);
+    book.ask4(1, 2, 0);
+    book.ask5(1, 8, &[5, 6, 7]);
+    book.ask6(b"operator");
+    book.ask6(&[]);
+}
+
+fn marks(book: &mut Book) {
+    book.title("refusal 2: each byte of the mark");
+    for (preamble, events) in [(&b""[..], vec![]), (b"", told(Q)), (b"night 3\n", told(Q))] {
+        for (place, byte) in [(6, 0x4C), (6, 0), (6, 0x51), (6, 0xD0), (7, 0x50), (7, 0)] {
+            let mut raw = Raw::new(preamble, &events);
+            raw.trailer[place] = byte;
+            book.recording(&raw.bytes());
+        }
+        for (first, second) in [
+            (0x4C, 0x50),
+            (0x50, 0x4D),
+            (0x50, 0x6C),
+            (0, 0),
+            (0xFF, 0xFF),
+        ] {
+            let mut raw = Raw::new(preamble, &events);
+            raw.trailer[6] = first;
+            raw.trailer[7] = second;
+            book.recording(&raw.bytes());
+        }
+        let mut whole = file(preamble, &events);
+        whole.push(0x0A);
+        book.recording(&whole);
+        ask_of_refused(book);
+    }
+}
+
+fn counts(book: &mut Book) {
+    book.title("refusals 3 and 4: the count of events, with and without the distance that fits it");
+    for n in [0, 1, 2, 8, 256, 512] {
+        let there = vec![w(1, 9); n];
+        let n = n as u16;
+        let claimed = [
+            n.wrapping_sub(1),
+            n + 1,
+            n.swap_bytes(),
+            n + 256,
+            512,
+            513,
+            514,
+            1024,
+            32768,
+            65535,
+        ];
+        for count in claimed {
+            for preamble in [&b""[..], b"12 bytes all"] {
+                let mut raw = Raw::new(preamble, &there);
+                raw.set_count(count);
+                book.recording(&raw.bytes());
+                raw.set_distance(8 + 4 * count as u32);
+                book.recording(&raw.bytes());
+            }
+        }
+    }
+    ask_of_refused(book);
+}
+
+fn distances(book: &mut Book) {
+    book.title("refusal 4: the distance");
+    for events in [vec![], vec![w(0, 0)], told(Q)] {
+        for preamble in [
+            &b""[..],
+            b"abc",
+            b"four",
+            b"as long as ten events are, 40 bytes ....",
+        ] {
+            let right = 8 + 4 * events.len() as u32;
+            let length = right + preamble.len() as u32;
+            let wrong = [
+                right - 1,
+                right + 1,
+                right - 4,
+                right + 4,
+                right | 0x100,
+                right | 0x1_0000,
+                right | 0x100_0000,
+                right | 0x8000_0000,
+                right.swap_bytes(),
+                length,
+                length + 1,
+                0,
+                u32::MAX,
+                0x8000_0000,
+            ];
+            for distance in wrong {
+                let mut raw = Raw::new(preamble, &events);
+                raw.set_distance(distance);
+                book.recording(&raw.bytes());
+            }
+        }
+    }
+    ask_of_refused(book);
+}
+
+fn fields(book: &mut Book) {
+    book.title(
+        "refusals 5, 6, 7: kind, thread and object of the first, a middle and the last event",
+    );
+    let first_of = [
+        (1, 0),
+        (1, 5),
+        (1, 255),
+        (1, 6),
+        (1, 0x81),
+        (0, 15),
+        (0, 16),
+        (0, 17),
+        (0, 255),
+    ];
+    let objects: [u16; 6] = [255, 256, 257, 511, 0xFF00, 65535];
+    let plain = told("0w1 1r1 2w0 3r3 0w1");
+    for (events, places) in [
+        (vec![w(0, 0)], vec![0]),
+        (told(Q), vec![0, 1, 4, 7]),
+        (plain, vec![0, 2, 4]),
+    ] {
+        for place in places {
+            for (field, value) in first_of {
+                let mut raw = Raw::new(b"", &events);
+                raw.events[place][field] = value;
+                book.recording(&raw.bytes());
+            }
+            for object in objects {
+                let mut raw = Raw::new(b"n", &events);
+                raw.events[place][2..].copy_from_slice(&object.to_le_bytes());
+                book.recording(&raw.bytes());
+            }
+            ask_of_refused(book);
+        }
+    }
+}
+
+/// Locks taken while held or given back by another, and some good ones among them.
+const LOCKS: [&str; 17] = [
+    "0+0 0+0",
+    "0+0 1+0",
+    "15+255 14+255",
+    "0+0 0+1 0+0",
+    "0+0 0-0 1+0 0+0",
+    "0+0 0-0 0+0 0-0",
+    "0+0 0+1 0-0 0-1",
+    "0+0 1+1 0+1",
+    "0-0",
+    "0+0 1-0",
+    "0+0 0-1",
+    "0+0 0-0 0-0",
+    "0+0 0-0 1-0",
+    "0+0 1+1 0-1",
+    "0+255 0-0",
+    "0+0 0-0 1+0 0-0",
+    "0w0 0r0 0+0 1w0",
+];
+
+fn locks(book: &mut Book) {
+    book.title("refusals 8 and 9: held locks, releases of what is not held");
+    let padding = told("3w7 4r7 5+77");
+    for case in LOCKS.map(told) {
+        book.recording(&file(&[], &case));
+        book.recording(&file(b"p", &[&padding[..], &case].concat()));
+        book.recording(&file(&[], &[&case[..], &padding].concat()));
+        book.recording(&file(&[], &[&case[..], &case].concat()));
+    }
+    ask_of_refused(book);
+    for place in 0..8 {
+        let mut events = told(R);
+        events.remove(place);
+        book.recording(&file(&[], &events));
+        events.insert(place, acq(2, 0));
+        book.recording(&file(&[], &events));
+        events[place] = rel(2, 0);
+        book.recording(&file(&[], &events));
+    }
+    ask_of_refused(book);
+    for (text, place) in [Q, R].iter().flat_map(|t| (0..=8).map(move |p| (t, p))) {
+        for event in told("0+0 1+0 0-0 1-0 0-1") {
+            let mut events = told(text);
+            events.insert(place, event);
+            book.recording(&file(&[], &events));
+        }
+    }
+}
+
+type Damage = (&'static str, fn(&mut Raw, usize));
+
+/// One damage of each refusal; those of an event are done to the event of the given number.
+fn damages() -> Vec<Damage> {
+    vec![
+        ("1", |raw, _| raw.preamble = vec![0x2E; 4096]),
+        ("2", |raw, _| raw.trailer[7] = 0x4D),
+        ("3", |raw, _| raw.set_count(513)),
+        ("4", |raw, _| raw.trailer[0] ^= 4),
+        ("5", |raw, i| raw.events[i][1] = 5),
+        ("6", |raw, i| raw.events[i][0] = 16),
+        ("7", |raw, i| raw.events[i][3] = 1),
+        ("8", |raw, i| raw.events[i] = [1, 3, 4, 0]),
+        ("9", |raw, i| raw.events[i] = [1, 4, 4, 0]),
+    ]
+}
+
+fn two_at_once(book: &mut Book) {
+    book.title("two damages at once: 1, 2, 3, 4, then event by event 5, 6, 7, then 8 or 9");
+    let base = [acq(0, 4), w(0, 0), r(1, 0), w(1, 1), r(0, 1), rel(0, 4)];
+    for (first, one) in damages() {
+        for (second, two) in damages() {
+            for (i, j) in [(2, 2), (1, 4), (4, 1), (3, 4)] {
+                let of_events = first > "4" && second > "4";
+                if !of_events && (i, j) != (1, 4) {
+                    continue;
+                }
+                let mut raw = Raw::new(b"", &base);
+                two(&mut raw, j);
+                one(&mut raw, i);
+                book.recording(&raw.bytes());
+            }
+        }
+    }
+}
+
+/// Good recordings of groups 3 and 4 with a byte changed, dropped or added.
+fn at_random(book: &mut Book) {
+    book.title("good recordings of groups 3 and 4 with a byte changed, dropped or added");
+    let mut chance = Chance::new(5);
+    let short = every(4);
+    for turn in 0..700 {
+        let events = if turn % 3 == 0 {
+            chance.one_of(&short)
+        } else {
+            random_events(&mut chance)
+        };
+        let preamble = chance.one_of(&[&b""[..], b"", b"note"]);
+        let mut bytes = file(preamble, &events);
+        spoil(&mut bytes, &mut chance);
+        book.recording(&bytes);
+        if chance.percent(10) {
+            ask_of_refused(book);
+        }
+    }
+}
+
+fn spoil(bytes: &mut Vec<u8>, chance: &mut Chance) {
+    let place = chance.below(bytes.len());
+    let of_event = chance.below(bytes.len().max(9) - 8);
+    match chance.below(8) {
+        0..=2 => bytes[of_event] = chance.one_of(&[0, 1, 2, 3, 4, 5, 15, 16, 255]),
+        3 => bytes[place] = chance.below(256) as u8,
+        4 => bytes[of_event] ^= 1 << chance.below(8),
+        5 => bytes[place] = bytes[place].wrapping_add(1),
+        6 => {
+            bytes.remove(place);
+        }
+        _ => bytes.insert(place, chance.below(256) as u8),
+    }
+}

@@ -1,0 +1,118 @@
+//! An independent exhaustive program: it answers the six questions of paper 01 by the published
+//! definitions alone, by listing and comparing, and writes down what it found as vectors.
+
+mod askings;
+mod book;
+mod chance;
+mod damaged;
+mod enumerate;
+mod figures;
+mod limits;
+mod questions;
+mod random;
+mod recording;
+mod rules;
+mod samples;
+mod short;
+mod stability;
+mod study;
+mod worked;
+
+use book::Book;
+use chance::Chance;
+use std::path::Path;
+
+fn vectors() -> Book {
+    let mut book = Book::new();
+    worked::write(&mut book);
+    figures::write(&mut book);
+    short::write(&mut book);
+    random::write(&mut book);
+    damaged::write(&mut book);
+    limits::write(&mut book);
+    samples::write(&mut book);
+    book
+}
+
+fn put(dir: &Path, name: &str, bytes: &[u8]) {
+    let path = dir.join(name);
+    let folder = path.parent().expect("a folder");
+    std::fs::create_dir_all(folder).expect("the folder is made");
+    std::fs::write(&path, bytes).expect("the file is written");
+}
+
+fn write(dir: &Path) {
+    let book = vectors();
+    put(dir, "crates/vectors/stdin", book.stdin.as_bytes());
+    put(dir, "crates/vectors/stdout", book.stdout.as_bytes());
+    for (name, bytes) in samples::all() {
+        put(dir, &format!("samples/{name}.rec"), &bytes);
+        let report = samples::report(&bytes);
+        put(dir, &format!("samples/{name}.out"), report.as_bytes());
+    }
+    let long = samples::long_report();
+    let report = samples::report(&long);
+    assert!(
+        (65_537..140_000).contains(&report.len()),
+        "{}",
+        report.len()
+    );
+    put(dir, "crates/nightly/stdin", &long);
+    put(dir, "crates/nightly/stdout", report.as_bytes());
+    for (what, count) in &book.counts {
+        println!("{count:8} {what}");
+    }
+    println!(
+        "{:8} bytes of stdin and stdout",
+        book.stdin.len() + book.stdout.len()
+    );
+}
+
+/// The pairs' confirmations are made while the vectors are; then those of the lengthenings.
+fn confirm() {
+    let book = vectors();
+    for (what, count) in book
+        .counts
+        .iter()
+        .filter(|(what, _)| what.starts_with("confirmed"))
+    {
+        println!("{count:8} {what}");
+    }
+    stability::confirm_short();
+    let of_book = worked::ALL.iter().map(|text| recording::told(text));
+    let recordings: Vec<_> = book.random.iter().cloned().chain(of_book).collect();
+    stability::confirm_random(&recordings);
+}
+
+/// Further random recordings for whoever wants more than what is stored.
+fn more(seed: &str, count: &str, dir: &str, longer: bool) {
+    let mut chance = Chance::new(seed.parse().expect("SEED is a number"));
+    let count: usize = count.parse().expect("COUNT is a number");
+    let mut book = Book::new();
+    book.group("more random recordings");
+    for turn in 0..count {
+        if longer {
+            random::put_longer(&mut book, &mut chance, turn);
+        } else {
+            random::put_one(&mut book, &mut chance);
+        }
+    }
+    put(Path::new(dir), "stdin", book.stdin.as_bytes());
+    put(Path::new(dir), "stdout", book.stdout.as_bytes());
+}
+
+fn main() {
+    let words: Vec<String> = std::env::args().skip(1).collect();
+    let words: Vec<&str> = words.iter().map(String::as_str).collect();
+    match words[..] {
+        ["write", dir] => write(Path::new(dir)),
+        ["confirm"] => confirm(),
+        ["more", seed, count, dir] => more(seed, count, dir, false),
+        ["longer", seed, count, dir] => more(seed, count, dir, true),
+        _ => {
+            eprintln!("usage: exhaustive write DIR | confirm");
+            eprintln!("       exhaustive more SEED COUNT DIR | longer SEED COUNT DIR");
+            std::process::exit(2);
+        }
+    }
+}

@@ -1,0 +1,214 @@
+//! A recording as bytes: how it is laid out and how it is judged
+//! (paper 01, "A recording on the desk" and refusals 1 to 9).
+
+#[derive(Clone, Copy, PartialEq, Eq, Debug)]
+pub enum Kind {
+    Read,
+    Write,
+    Acquire,
+    Release,
+}
+
+#[derive(Clone, Copy, PartialEq, Eq, Debug)]
+pub struct Event {
+    pub thread: u8,
+    pub kind: Kind,
+    pub object: u16,
+}
+
+#[derive(Clone, PartialEq, Eq, Debug, Default)]
+pub struct Recording {
+    pub preamble: Vec<u8>,
+    pub events: Vec<Event>,
+}
+
+/// A refusal's number and, where one belongs to it, the event's number.
+#[derive(Clone, Copy, PartialEq, Eq, Debug)]
+pub struct Refusal {
+    pub number: u8,
+    pub event: Option<usize>,
+}
+
+impl Refusal {
+    pub fn plain(number: u8) -> Refusal {
+        Refusal {
+            number,
+            event: None,
+        }
+    }
+
+    fn at(number: u8, event: usize) -> Refusal {
+        Refusal {
+            number,
+            event: Some(event),
+        }
+    }
+
+    pub fn words(&self) -> String {
+        match self.event {
+            None => format!("refused {}", self.number),
+            Some(event) => format!("refused {} at {}", self.number, event),
+        }
+    }
+}
+
+/// Judges a file: refusals 1, 2, 3, 4, then event by event 5, 6, 7, then 8 or 9.
+pub fn judge(bytes: &[u8]) -> Result<Recording, Refusal> {
+    let first = first_event(bytes)?;
+    let mut events: Vec<Event> = Vec::new();
+    for four in bytes[first..bytes.len() - 8].chunks(4) {
+        let number = events.len() + 1;
+        let event = judge_event(four, number)?;
+        judge_lock(&events, event, number)?;
+        events.push(event);
+    }
+    Ok(Recording {
+        preamble: bytes[..first].to_vec(),
+        events,
+    })
+}
+
+/// Judges size and trailer and gives the place of the first event's first byte.
+fn first_event(bytes: &[u8]) -> Result<usize, Refusal> {
+    if bytes.len() < 8 || bytes.len() > 4096 {
+        return Err(Refusal::plain(1));
+    }
+    let trailer = &bytes[bytes.len() - 8..];
+    if trailer[6] != 0x50 || trailer[7] != 0x4C {
+        return Err(Refusal::plain(2));
+    }
+    let count = u16::from_le_bytes([trailer[4], trailer[5]]) as u64;
+    if count > 512 {
+        return Err(Refusal::plain(3));
+    }
+    let distance = u32::from_le_bytes([trailer[0], trailer[1], trailer[2], trailer[3]]) as u64;
+    if distance != 8 + 4 * count || distance > bytes.len() as u64 {
+        return Err(Refusal::plain(4));
+    }
+    Ok(bytes.len() - distance as usize)
+}
+
+/// Judges the four bytes of one event: refusals 5, 6, 7.
+fn judge_event(four: &[u8], number: usize) -> Result<Event, Refusal> {
+    let kind = match four[1] {
+        1 => Kind::Read,
+        2 => Kind::Write,
+        3 => Kind::Acquire,
+        4 => Kind::Release,
+        _ => return Err(Refusal::at(5, number)),
+    };
+    if four[0] > 15 {
+        return Err(Refusal::at(6, number));
+    }
+    let object = u16::from_le_bytes([four[2], four[3]]);
+    if object > 255 {
+        return Err(Refusal::at(7, number));
+    }
+    Ok(Event {
+        thread: four[0],
+        kind,
+        object,
+    })
+}
+
+/// Well-formed: an acquire takes a lock that nobody holds (8), a release is by the holder (9).
+fn judge_lock(before: &[Event], event: Event, number: usize) -> Result<(), Refusal> {
+    let holder = holder(before, event.object);
+    match event.kind {
+        Kind::Acquire if holder.is_some() => Err(Refusal::at(8, number)),
+        Kind::Release if holder != Some(event.thread) => Err(Refusal::at(9, number)),
+        _ => Ok(()),
+    }
+}
+
+/// Who holds the lock after these events: the taker, if it was taken last.
+pub fn holder(events: &[Event], lock: u16) -> Option<u8> {
+    let last = events
+        .iter()
+        .rev()
+        .find(|e| e.object == lock && matches!(e.kind, Kind::Acquire | Kind::Release))?;
+    (last.kind == Kind::Acquire).then_some(last.thread)
+}
+
+/// Whether the event may come next in a well-formed recording.
+pub fn may_come_next(events: &[Event], event: Event) -> bool {
+    judge_lock(events, event, 0).is_ok()
+}
+
+/// The number of different threads that have an event.
+pub fn count_threads(events: &[Event]) -> usize {
+    (0..16u8)
+        .filter(|t| events.iter().any(|e| e.thread == *t))
+        .count()
+}
+
+pub fn event_bytes(event: &Event) -> [u8; 4] {
+    let kind = match event.kind {
+        Kind::Read => 1,
+        Kind::Write => 2,
+        Kind::Acquire => 3,
+        Kind::Release => 4,
+    };
+    let object = event.object.to_le_bytes();
+    [event.thread, kind, object[0], object[1]]
+}
+
+/// The trailer with any distance and count, right or wrong.
+pub fn trailer(distance: u32, count: u16) -> [u8; 8] {
+    let d = distance.to_le_bytes();
+    let c = count.to_le_bytes();
+    [d[0], d[1], d[2], d[3], c[0], c[1], 0x50, 0x4C]
+}
+
+/// The file of a preamble and events.
+pub fn file(preamble: &[u8], events: &[Event]) -> Vec<u8> {
+    let mut bytes = preamble.to_vec();
+    for event in events {
+        bytes.extend(event_bytes(event));
+    }
+    bytes.extend(trailer(8 + 4 * events.len() as u32, events.len() as u16));
+    bytes
+}
+
+/// Short ways to write events down.
+pub fn r(thread: u8, cell: u16) -> Event {
+    made(thread, Kind::Read, cell)
+}
+
+pub fn w(thread: u8, cell: u16) -> Event {
+    made(thread, Kind::Write, cell)
+}
+
+pub fn acq(thread: u8, lock: u16) -> Event {
+    made(thread, Kind::Acquire, lock)
+}
+
+pub fn rel(thread: u8, lock: u16) -> Event {
+    made(thread, Kind::Release, lock)
+}
+
+fn made(thread: u8, kind: Kind, object: u16) -> Event {
+    Event {
+        thread,
+        kind,
+        object,
+    }
+}
+
+/// Events from words such as `0w1 0+0 2r1 0-0`: thread, then r, w, + (acquire) or - (release),
+/// then the object.
+pub fn told(text: &str) -> Vec<Event> {
+    text.split_whitespace().map(told_event).collect()
+}
+
+fn told_event(word: &str) -> Event {
+    let place = word.find(['r', 'w', '+', '-']).expect("a kind");
+    let thread = word[..place].parse().expect("a thread");
+    let object = word[place + 1..].parse().expect("an object");
+    match &word[place..=place] {
+        "r" => r(thread, object),
+        "w" => w(thread, object),
+        "+" => acq(thread, object),
+        _ => rel(thread, object),
+    }
+}

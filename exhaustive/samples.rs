@@ -1,0 +1,155 @@
+//! Group 7: the samples, and the nightly program's report (paper 01, "The nightly program").
+
+use crate::askings::{ask_next, ask_verdict};
+use crate::book::Book;
+use crate::chance::Chance;
+use crate::questions::{Asked, AREA};
+use crate::recording::{acq, file, r, rel, told, w, Event};
+use crate::worked::Q;
+
+/// The samples' names and files.
+pub fn all() -> Vec<(&'static str, Vec<u8>)> {
+    vec![
+        ("q", file(&[], &told(Q))),
+        ("night", file(b"night 12, stand-in run\n", &night())),
+        ("relay", file(b"relay stand, two arms\n", &relay())),
+    ]
+}
+
+pub fn write(book: &mut Book) {
+    book.group("group 7: the samples");
+    let mut chance = Chance::new(7);
+    for (name, bytes) in all() {
+        book.title(&format!("samples/{name}.rec"));
+        book.recording(&bytes);
+        for _ in 0..10 {
+            ask_verdict(book, &mut chance);
+            ask_next(book, &mut chance);
+        }
+        let study = book.study().expect("a good recording");
+        let shown: Vec<_> = study
+            .pairs
+            .iter()
+            .filter_map(|p| p.shown.clone().map(|list| (p.a, p.b, list)))
+            .collect();
+        for (a, b, list) in shown {
+            book.ask5(a, b, &list);
+            book.ask5(a, b, &list[..list.len() - list.len().min(1)]);
+            let mut turned = list.clone();
+            turned.rotate_left(list.len().min(1));
+            book.ask5(a, b, &turned);
+        }
+        book.ask6(b"operator");
+    }
+}
+
+/// The recording whose report is longer than 65,536 bytes.
+pub fn long_report() -> Vec<u8> {
+    file(&[], &[vec![r(0, 0); 210], vec![w(1, 0)]].concat())
+}
+
+/// What the nightly program writes for a file.
+pub fn report(bytes: &[u8]) -> String {
+    let asked = Asked::new(bytes.to_vec());
+    let study = match &asked.judged {
+        Err(refusal) => return format!("{}\n", refusal.words()),
+        Ok(study) => study,
+    };
+    let mut text = format!(
+        "events {} threads {}\n",
+        study.events().len(),
+        study.threads
+    );
+    let mut area = vec![0; AREA];
+    let mut last = (0, 0);
+    let mut races = 0;
+    while let Ok(Some((a, b))) = asked.next_race(last, &mut area) {
+        let list = study
+            .pair(a, b)
+            .and_then(|p| p.shown.as_ref())
+            .expect("a race");
+        let numbers: String = list.iter().map(|e| format!(" {e}")).collect();
+        text += &format!("race {a} {b} witness{numbers}\n");
+        last = (a, b);
+        races += 1;
+    }
+    text + &format!("races {races}\n")
+}
+
+const KEEPER: u8 = 0;
+const WORKER: u8 = 1;
+const CLOCK: u8 = 2;
+const MARK_A: u16 = 0;
+const MARK_B: u16 = 1;
+const HOUR: u16 = 2;
+const DRIVE_A: u16 = 3;
+const DRIVE_B: u16 = 4;
+const DONE: u16 = 5;
+const SCHEDULE: u16 = 0;
+const DRIVES: u16 = 1;
+const TIME: u16 = 2;
+
+fn section(thread: u8, lock: u16, inner: &[Event]) -> Vec<Event> {
+    [&[acq(thread, lock)], inner, &[rel(thread, lock)]].concat()
+}
+
+/// A keeper marks drives as due in a schedule, a worker rewrites the drives, a clock sets the
+/// hour. Most accesses are locked; three are careless: the worker's count of drives done, a look
+/// at the hour, and a mark set back without the schedule's lock.
+fn night() -> Vec<Event> {
+    [
+        section(CLOCK, TIME, &[w(CLOCK, HOUR)]),
+        section(KEEPER, SCHEDULE, &[r(KEEPER, MARK_A), w(KEEPER, MARK_A)]),
+        section(WORKER, SCHEDULE, &[r(WORKER, MARK_A)]),
+        section(WORKER, DRIVES, &[r(WORKER, DRIVE_A), w(WORKER, DRIVE_A)]),
+        vec![w(WORKER, DONE)],
+        section(KEEPER, TIME, &[r(KEEPER, HOUR)]),
+        vec![r(KEEPER, DONE)],
+        section(CLOCK, TIME, &[w(CLOCK, HOUR)]),
+        section(KEEPER, SCHEDULE, &[w(KEEPER, MARK_B)]),
+        vec![w(KEEPER, MARK_A)],
+        section(WORKER, SCHEDULE, &[r(WORKER, MARK_B), r(WORKER, MARK_A)]),
+        section(WORKER, DRIVES, &[w(WORKER, DRIVE_B)]),
+        vec![r(WORKER, HOUR)],
+    ]
+    .concat()
+}
+
+/// Two arms take turns: the first reads the count that the second left, they meet, and the second
+/// counts. Most meetings are well locked.
+fn relay() -> Vec<Event> {
+    let mut events = Vec::new();
+    for turn in 0..11 {
+        events.extend(section(0, 0, &[r(0, 0)]));
+        events.extend(meeting(turn));
+        events.extend(section(1, 0, &[r(1, 0), w(1, 0)]));
+    }
+    events
+}
+
+/// What happens between reading the count and counting.
+fn meeting(turn: usize) -> Vec<Event> {
+    let cell = 10 + turn as u16;
+    match turn {
+        2 | 5 | 8 => [
+            vec![w(0, cell)],
+            section(0, 2, &[w(0, 2)]),
+            section(1, 2, &[r(1, cell), r(1, 2)]),
+        ]
+        .concat(),
+        10 => [
+            vec![w(0, cell)],
+            section(0, 3, &[r(0, 3)]),
+            section(1, 3, &[r(1, 3)]),
+            vec![r(1, cell)],
+        ]
+        .concat(),
+        9 => [
+            section(0, 4, &[w(0, cell)]),
+            section(1, 4, &[w(1, cell)]),
+            vec![r(1, cell)],
+        ]
+        .concat(),
+        _ => [section(0, 1, &[w(0, cell)]), section(1, 1, &[r(1, cell)])].concat(),
+    }
+}

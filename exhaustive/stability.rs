@@ -1,0 +1,273 @@
+//! Confirmations about lengthenings (paper 01, demand 3). By at most two threads: each conflicting
+//! pair has the same verdict and the same list shown in a lengthening, and a pair that is not
+//! reported is not predictable there. By any number: the list shown passes question 5.
+
+use crate::chance::Chance;
+use crate::enumerate::every_correct;
+use crate::questions::first_fault;
+use crate::recording::{acq, count_threads, may_come_next, r, rel, w, Event, Kind};
+use crate::rules::{brings_next, List};
+use crate::short::every;
+use crate::study::{conflicting_pairs, shown_by_merges};
+
+type Known = (usize, usize, Option<List>);
+
+/// A recording with what is known of its conflicting pairs.
+struct Base {
+    events: Vec<Event>,
+    pairs: Vec<Known>,
+    by_two: bool,
+}
+
+impl Base {
+    fn new(events: &[Event]) -> Base {
+        let pairs = conflicting_pairs(events).into_iter();
+        Base {
+            events: events.to_vec(),
+            pairs: pairs
+                .map(|(a, b)| (a, b, shown_by_merges(events, a, b)))
+                .collect(),
+            by_two: count_threads(events) <= 2,
+        }
+    }
+}
+
+/// How many confirmations were made.
+#[derive(Default)]
+pub struct Tally {
+    pub lengthenings: usize,
+    pub same_verdicts: usize,
+    pub never_predictable: usize,
+    pub lists_still_pass: usize,
+    pub verdicts_changed: usize,
+    pub example: Option<String>,
+}
+
+impl Tally {
+    fn look(&mut self, base: &Base, longer: &[Event]) {
+        self.lengthenings += 1;
+        for (a, b, shown) in &base.pairs {
+            let now = shown_by_merges(longer, *a, *b);
+            if base.by_two {
+                assert_eq!(now, *shown, "{:?} {longer:?} {a} {b}", base.events);
+                self.same_verdicts += 1;
+            } else if now.is_some() != shown.is_some() {
+                self.changed(base, longer, (*a, *b), (shown, &now));
+            }
+            if let Some(list) = shown {
+                assert_eq!(
+                    first_fault(longer, *a, *b, list),
+                    None,
+                    "{longer:?} {a} {b}"
+                );
+                self.lists_still_pass += 1;
+            }
+        }
+        if base.by_two {
+            self.not_predictable(base, longer);
+        }
+    }
+
+    /// Every correct reordering of the lengthening is visited: none brings a pair next that is
+    /// not reported.
+    fn not_predictable(&mut self, base: &Base, longer: &[Event]) {
+        let silent: Vec<&Known> = base.pairs.iter().filter(|p| p.2.is_none()).collect();
+        if silent.is_empty() {
+            return;
+        }
+        every_correct(longer, &mut |list| {
+            for (a, b, _) in &silent {
+                assert!(
+                    !brings_next(longer, list, *a, *b),
+                    "{longer:?} {a} {b} {list:?}"
+                );
+            }
+        });
+        self.never_predictable += silent.len();
+    }
+
+    /// With three or more threads a verdict may change; the shortest such is kept as an example.
+    fn changed(
+        &mut self,
+        base: &Base,
+        longer: &[Event],
+        pair: (usize, usize),
+        (before, now): (&Option<List>, &Option<List>),
+    ) {
+        self.verdicts_changed += 1;
+        let words = format!(
+            "{} then {}: {pair:?} was {}, is {}",
+            events_words(&base.events),
+            events_words(&longer[base.events.len()..]),
+            verdict_words(before),
+            verdict_words(now)
+        );
+        if self
+            .example
+            .as_ref()
+            .is_none_or(|old| words.len() < old.len())
+        {
+            self.example = Some(words);
+        }
+    }
+
+    pub fn print(&self, what: &str) {
+        println!(
+            "{what}: {} lengthenings, {} verdicts the same, {} pairs still not predictable, \
+             {} lists still pass, {} verdicts changed (three or more threads)",
+            self.lengthenings,
+            self.same_verdicts,
+            self.never_predictable,
+            self.lists_still_pass,
+            self.verdicts_changed
+        );
+        if let Some(example) = &self.example {
+            println!("  for example {example}");
+        }
+    }
+}
+
+fn verdict_words(shown: &Option<List>) -> String {
+    match shown {
+        Some(list) => format!("reported with {list:?}"),
+        None => "not reported".to_string(),
+    }
+}
+
+fn events_words(events: &[Event]) -> String {
+    let words: Vec<String> = events
+        .iter()
+        .map(|e| {
+            let kind = match e.kind {
+                Kind::Read => "r",
+                Kind::Write => "w",
+                Kind::Acquire => "acq",
+                Kind::Release => "rel",
+            };
+            format!("T{} {kind}({})", e.thread, e.object)
+        })
+        .collect();
+    words.join(", ")
+}
+
+/// What events may be added: the recording's threads and so many new ones, its cells and locks
+/// and a new one of each.
+fn additions(events: &[Event], new_threads: usize) -> Vec<Event> {
+    let has = |t: u8| events.iter().any(|e| e.thread == t);
+    let old = (0..16u8).filter(|t| has(*t));
+    let new = (0..16u8).filter(|t| !has(*t)).take(new_threads);
+    let threads: Vec<u8> = old.chain(new).collect();
+    let objects = |cell: bool| -> Vec<u16> {
+        let of_kind = |e: &&Event| matches!(e.kind, Kind::Read | Kind::Write) == cell;
+        let used: Vec<u16> = events.iter().filter(of_kind).map(|e| e.object).collect();
+        let new = (0..256u16).find(|o| !used.contains(o));
+        (0..256u16)
+            .filter(|o| used.contains(o) || Some(*o) == new)
+            .collect()
+    };
+    let mut all = Vec::new();
+    for t in threads {
+        all.extend(objects(true).iter().flat_map(|c| [r(t, *c), w(t, *c)]));
+        all.extend(objects(false).iter().flat_map(|l| [acq(t, *l), rel(t, *l)]));
+    }
+    all
+}
+
+/// Visits every lengthening by one to so many events.
+fn every_lengthening(
+    events: &mut Vec<Event>,
+    added: &[Event],
+    steps: usize,
+    visit: &mut dyn FnMut(&[Event]),
+) {
+    if steps == 0 {
+        return;
+    }
+    for event in added {
+        if may_come_next(events, *event) {
+            events.push(*event);
+            visit(events);
+            every_lengthening(events, added, steps - 1, visit);
+            events.pop();
+        }
+    }
+}
+
+/// All lengthenings by one to so many events.
+fn all_of(events: &[Event], new_threads: usize, steps: usize, tally: &mut Tally) {
+    let base = Base::new(events);
+    if !base.pairs.is_empty() {
+        let added = additions(events, new_threads);
+        let mut longer = events.to_vec();
+        every_lengthening(&mut longer, &added, steps, &mut |e| tally.look(&base, e));
+    }
+}
+
+/// A few lengthenings, at random, by at least so many events and at most three.
+fn some_of(events: &[Event], least: usize, times: usize, chance: &mut Chance, tally: &mut Tally) {
+    let base = Base::new(events);
+    if base.pairs.is_empty() {
+        return;
+    }
+    let added = additions(events, 2);
+    for _ in 0..times {
+        let mut longer = events.to_vec();
+        let steps = chance.from_to(least, 3);
+        while longer.len() < events.len() + steps {
+            let event = chance.one_of(&added);
+            if may_come_next(&longer, event) {
+                longer.push(event);
+            }
+        }
+        tally.look(&base, &longer);
+    }
+}
+
+/// The confirmations for every recording of at most 5 events by 2 threads.
+pub fn confirm_short() {
+    for (length, new_threads, steps) in [(2, 2, 3), (3, 2, 3), (4, 2, 2), (5, 1, 2)] {
+        let mut tally = Tally::default();
+        for events in every(length).iter().filter(|e| e.len() == length) {
+            all_of(events, new_threads, steps, &mut tally);
+        }
+        tally.print(&format!(
+            "all recordings of {length} events, all lengthenings by up to {steps} events, \
+             {new_threads} new threads"
+        ));
+    }
+    let mut chance = Chance::new(12);
+    let mut tally = Tally::default();
+    for events in every(5).iter().filter(|e| e.len() >= 4) {
+        some_of(events, 3, 60, &mut chance, &mut tally);
+    }
+    tally.print(
+        "all recordings of 4 and 5 events, lengthenings by 3 events at random, 2 new threads",
+    );
+}
+
+/// The confirmations for the random recordings.
+pub fn confirm_random(recordings: &[Vec<Event>]) {
+    let mut chance = Chance::new(11);
+    for by_two in [true, false] {
+        let mut tally = Tally::default();
+        for events in recordings {
+            if (count_threads(events) <= 2) == by_two {
+                some_of(
+                    events,
+                    1,
+                    if by_two { 10 } else { 20 },
+                    &mut chance,
+                    &mut tally,
+                );
+            }
+        }
+        let who = if by_two {
+            "at most two"
+        } else {
+            "three or four"
+        };
+        tally.print(&format!(
+            "random recordings by {who} threads, lengthenings at random"
+        ));
+    }
+}

@@ -1,0 +1,147 @@
+//! Everything there is to know of one good recording: its conflicting pairs, which are reported,
+//! what is shown for them and, for short recordings, which are predictable.
+
+use crate::enumerate::{all_correct, correct_merges, every_correct};
+use crate::recording::{count_threads, Event, Recording};
+use crate::rules::{brings_next, cone, conflicting, correct, is_candidate, shown, List};
+
+/// Up to so many events by up to so many threads every correct reordering is listed.
+pub const SHORT: usize = 9;
+pub const SHORT_THREADS: usize = 6;
+
+/// Up to so many events by at most two threads every correct reordering is visited.
+pub const SHORT_BY_TWO: usize = 14;
+
+pub struct Pair {
+    pub a: usize,
+    pub b: usize,
+    /// The reordering shown, if the pair is reported.
+    pub shown: Option<List>,
+    /// Whether the pair is a predictable race, where every correct reordering was listed.
+    pub predictable: Option<bool>,
+}
+
+pub struct Study {
+    pub recording: Recording,
+    pub threads: usize,
+    pub pairs: Vec<Pair>,
+    /// Every correct reordering, for short recordings.
+    pub lists: Option<Vec<List>>,
+}
+
+impl Study {
+    pub fn new(recording: Recording) -> Study {
+        let events = &recording.events;
+        let threads = count_threads(events);
+        let short = events.len() <= SHORT && threads <= SHORT_THREADS;
+        let lists = short.then(|| all_correct(events));
+        let visited = short || threads <= 2 && events.len() <= SHORT_BY_TWO;
+        let predictable = visited.then(|| predictable_pairs(events));
+        let pairs = conflicting_pairs(events)
+            .into_iter()
+            .map(|pair| study_pair(events, lists.as_deref(), predictable.as_deref(), pair))
+            .collect();
+        Study {
+            threads,
+            pairs,
+            lists,
+            recording,
+        }
+    }
+
+    pub fn events(&self) -> &[Event] {
+        &self.recording.events
+    }
+
+    pub fn pair(&self, a: usize, b: usize) -> Option<&Pair> {
+        self.pairs.iter().find(|p| (p.a, p.b) == (a, b))
+    }
+}
+
+pub fn conflicting_pairs(events: &[Event]) -> Vec<(usize, usize)> {
+    let mut pairs = Vec::new();
+    for a in 1..=events.len() {
+        for b in a + 1..=events.len() {
+            if conflicting(events, a, b) {
+                pairs.push((a, b));
+            }
+        }
+    }
+    pairs
+}
+
+/// The predictable races: every correct reordering is visited.
+pub fn predictable_pairs(events: &[Event]) -> Vec<(usize, usize)> {
+    let mut open = conflicting_pairs(events);
+    let mut found = Vec::new();
+    every_correct(events, &mut |list| {
+        open.retain(|(a, b)| {
+            let brought = brings_next(events, list, *a, *b);
+            if brought {
+                found.push((*a, *b));
+            }
+            !brought
+        });
+    });
+    found
+}
+
+fn study_pair(
+    events: &[Event],
+    lists: Option<&[List]>,
+    predictable: Option<&[(usize, usize)]>,
+    (a, b): (usize, usize),
+) -> Pair {
+    let shown = shown_by_merges(events, a, b);
+    if let Some(lists) = lists {
+        assert_eq!(shown, shown_of_all(events, lists, a, b), "{events:?}");
+    }
+    let pair = Pair {
+        a,
+        b,
+        shown,
+        predictable: predictable.map(|races| races.contains(&(a, b))),
+    };
+    check_pair(events, &pair);
+    pair
+}
+
+/// The reordering shown, from all merges of the cone's events.
+pub fn shown_by_merges(events: &[Event], a: usize, b: usize) -> Option<List> {
+    let inside = cone(events, a, b);
+    if inside[a] || inside[b] {
+        return None;
+    }
+    let merges = correct_merges(events, &inside, events[a - 1].thread);
+    shown(events, &merges, a)
+}
+
+/// The reordering shown, from all correct reorderings of the recording.
+/// Both ways must give the same candidates.
+fn shown_of_all(events: &[Event], lists: &[List], a: usize, b: usize) -> Option<List> {
+    let inside = cone(events, a, b);
+    let mut candidates: Vec<List> = lists
+        .iter()
+        .filter(|list| is_candidate(events, list, &inside, a, b))
+        .cloned()
+        .collect();
+    candidates.sort();
+    let mut merges = correct_merges(events, &inside, events[a - 1].thread);
+    merges.retain(|_| !inside[a] && !inside[b]);
+    merges.sort();
+    assert_eq!(candidates, merges, "{events:?} {a} {b}");
+    shown(events, &candidates, a)
+}
+
+/// The list shown is a correct reordering that brings both next; a reported pair is predictable;
+/// by at most two threads a predictable pair is reported.
+fn check_pair(events: &[Event], pair: &Pair) {
+    let (a, b) = (pair.a, pair.b);
+    if let Some(list) = &pair.shown {
+        assert!(correct(events, list), "{events:?} {a} {b} {list:?}");
+        assert!(brings_next(events, list, a, b), "{events:?} {a} {b}");
+        assert!(pair.predictable != Some(false), "{events:?} {a} {b}");
+    } else if count_threads(events) <= 2 {
+        assert!(pair.predictable != Some(true), "{events:?} {a} {b}");
+    }
+}

@@ -1,0 +1,186 @@
+//! Group 1: the worked examples P to X, the slips and the limits of paper 01.
+//! Cells x = 0, y = 1, z = 2; locks l = 0, m = 1.
+
+use crate::book::Book;
+use crate::questions::AREA;
+use crate::recording::{acq, file, told, w};
+
+pub const Q: &str = "0w1 0+0 0r0 0-0 1+0 1r0 1-0 1r1";
+pub const R: &str = "0+0 0r0 0w0 0-0 1+0 1r0 1w0 1-0";
+pub const S: &str = "0w1 0+0 0w0 0-0 1+0 1r1 1r0 1-0";
+pub const T: &str = "0w1 0+0 0w0 0-0 1+0 1r0 1r1 1-0";
+const U: &str = "0r0 0w2 1w0 1w2";
+const V: &str = "0w0 1r0";
+pub const W: &str = "0w0 2+0 2w1 2r0 2-0 1r1 1w0";
+const X: &str = "2+1 2w1 0r1 0w0 1+0 1r0 1-0 2+0 2-0 2-1";
+
+/// All but the empty one.
+pub const ALL: [&str; 8] = [Q, R, S, T, U, V, W, X];
+
+/// A reported pair with the list shown for it.
+type Race<'a> = (usize, usize, &'a [usize]);
+
+/// Writes a recording down; asserts its reported pairs with what is shown for them.
+fn put(book: &mut Book, title: &str, text: &str, races: &[Race]) {
+    book.title(title);
+    book.recording(&file(&[], &told(text)));
+    let study = book.study().expect("a good recording");
+    let reported: Vec<Race> = study
+        .pairs
+        .iter()
+        .filter_map(|p| p.shown.as_deref().map(|list| (p.a, p.b, list)))
+        .collect();
+    assert_eq!(reported, races, "{title}");
+}
+
+pub fn write(book: &mut Book) {
+    book.group("group 1: the worked examples, the slips and the limits");
+    p_and_q(book);
+    r_s_t(book);
+    u_and_v(book);
+    w_and_x(book);
+    slips(book);
+    more_slips(book);
+    limits(book);
+}
+
+fn p_and_q(book: &mut Book) {
+    put(book, "P: no events", "", &[]);
+    book.ask2(0);
+    book.ask2(1);
+    book.ask3(1, 2, 0, AREA);
+    book.ask3(0, 0, 0, 0);
+    book.ask4(0, 0, AREA);
+    book.ask4(65535, 65535, AREA - 1);
+    book.ask5(1, 2, &[]);
+    book.ask6(&[]);
+    book.ask6(b"stand 4");
+    let title = "Q: (1, 8) is reported with 5 6 7";
+    put(book, title, Q, &[(1, 8, &[5, 6, 7])]);
+    book.ask3(1, 8, 8, AREA);
+    book.ask3(1, 8, 7, AREA);
+    book.ask3(8, 1, 8, AREA);
+    book.ask4(0, 0, AREA);
+    book.ask4(1, 7, AREA);
+    book.ask4(1, 8, AREA);
+    book.ask5(1, 8, &[5, 6, 7]);
+    book.ask5(1, 8, &[5, 6]);
+    book.ask5(1, 8, &[]);
+    book.ask5(1, 8, &[1, 5, 6, 7]);
+    book.ask5(3, 6, &[]);
+}
+
+fn r_s_t(book: &mut Book) {
+    put(book, "R: nothing is reported", R, &[]);
+    for (a, b) in [(2, 7), (3, 6), (3, 7), (2, 6)] {
+        book.ask3(a, b, 8, AREA);
+        book.ask5(a, b, &[1, 2, 3, 4, 5]);
+        book.ask5(a, b, &[5, 1]);
+        book.ask5(a, b, &[1, 5]);
+    }
+    put(book, "S: only (1, 6), with 5", S, &[(1, 6, &[5])]);
+    book.ask3(1, 6, 8, AREA);
+    book.ask3(3, 7, 8, AREA);
+    book.ask5(1, 6, &[5]);
+    book.ask5(1, 6, &[5, 6]);
+    book.ask5(3, 7, &[1, 2, 5, 6]);
+    put(book, "T: nothing is reported", T, &[]);
+    book.ask3(1, 7, 8, AREA);
+    book.ask3(3, 6, 8, AREA);
+    book.ask5(1, 7, &[5, 6]);
+    book.ask5(1, 7, &[5]);
+}
+
+fn u_and_v(book: &mut Book) {
+    let title = "U: (1, 3) with the empty list, (2, 4) with 1 3";
+    put(book, title, U, &[(1, 3, &[]), (2, 4, &[1, 3])]);
+    book.ask5(2, 4, &[1, 3]);
+    book.ask5(2, 4, &[3, 1]);
+    book.ask5(1, 3, &[]);
+    book.ask4(1, 3, AREA);
+    book.ask4(2, 3, AREA);
+    book.ask4(2, 4, AREA);
+    book.ask3(2, 4, 4, AREA);
+    let title = "V: reported, with the empty list";
+    put(book, title, V, &[(1, 2, &[])]);
+    book.ask5(1, 2, &[]);
+    book.ask5(1, 2, &[1]);
+    book.ask5(1, 2, &[2]);
+    book.ask3(1, 2, 2, AREA);
+}
+
+fn w_and_x(book: &mut Book) {
+    let title = "W: (1, 7) is not reported, yet 2 3 6 passes";
+    let races: [Race; 3] = [(1, 4, &[2, 3]), (3, 6, &[2]), (4, 7, &[2, 3, 6])];
+    put(book, title, W, &races);
+    book.ask3(1, 7, 7, AREA);
+    book.ask5(1, 7, &[2, 3, 6]);
+    book.ask5(1, 7, &[2, 3]);
+    book.ask5(1, 7, &[2, 3, 4, 5, 6]);
+    book.ask5(4, 7, &[2, 3, 6]);
+    put(book, "X: (4, 6) is not reported", X, &[(2, 3, &[1])]);
+    book.ask3(4, 6, 10, AREA);
+    book.ask5(4, 6, &[1, 2, 3, 5]);
+    book.ask5(4, 6, &[1, 2, 3, 5, 8]);
+    book.ask5(4, 6, &[5, 1, 2, 3]);
+}
+
+/// For each slip a recording that a program making it answers wrongly.
+fn slips(book: &mut Book) {
+    let title = "slip, differing lock sets: T, (1, 7) has no common lock";
+    put(book, title, T, &[]);
+    let title = "slip, differing lock sets: (1, 8) has no lock at all, yet 6 saw 3";
+    put(book, title, "0w1 0+0 0w0 0-0 1+0 1r0 1-0 1r1", &[]);
+    let title = "slip, a start read floating past a write: U shows 1 3, not 3 1";
+    put(book, title, U, &[(1, 3, &[]), (2, 4, &[1, 3])]);
+    let title = "slip, a start read floating past a write: (3, 8) is not reported";
+    put(book, title, "0+0 0r0 0w2 0-0 1+0 1w0 1-0 1w2", &[]);
+    book.ask5(3, 8, &[5, 6, 7, 1, 2]);
+    book.ask5(3, 8, &[1, 2, 5, 6, 7]);
+}
+
+fn more_slips(book: &mut Book) {
+    let title = "slip, the enabled read must see its old write: V";
+    put(book, title, V, &[(1, 2, &[])]);
+    let title = "slip, the enabled read must see its old write: (2, 3)";
+    put(book, title, "0w0 1w0 0r0", &[(1, 2, &[]), (2, 3, &[1])]);
+    let title = "slip, keeping the recorded order of sections: Q is lost";
+    put(book, title, Q, &[(1, 8, &[5, 6, 7])]);
+    let title = "slip, keeping the recorded order of sections: (2, 6) needs 4 5 before 1";
+    put(
+        book,
+        title,
+        "0+0 0w0 0-0 1+0 1-0 1w0",
+        &[(2, 6, &[4, 5, 1])],
+    );
+    book.ask5(2, 6, &[4, 5, 1]);
+    book.ask5(2, 6, &[1, 4, 5]);
+    book.ask5(2, 6, &[4, 1, 5]);
+    let title = "slip, releases added for the pair's own threads: S is hidden";
+    put(book, title, S, &[(1, 6, &[5])]);
+    let title = "slip, releases added for the pair's own threads: (1, 3) with 2";
+    put(book, title, "0w0 1+0 1w0 1-0", &[(1, 3, &[2])]);
+}
+
+fn limits(book: &mut Book) {
+    let many = |n: usize| file(&[], &vec![w(0, 0); n]);
+    book.title("limit: 512 events good, 513 refused 3");
+    book.recording(&many(512));
+    book.recording(&many(513));
+    book.title("limit: objects 255 and 256, cells and locks");
+    for object in [255, 256] {
+        book.recording(&file(&[], &[w(0, object)]));
+        book.recording(&file(&[], &[acq(0, object)]));
+    }
+    book.title("limit: threads 15 and 16");
+    for thread in [15, 16] {
+        book.recording(&file(&[], &[w(thread, 0)]));
+    }
+    book.title("limit: files of 7 and 8 bytes, of 4,096 and 4,097 bytes");
+    let least = file(&[], &[]);
+    book.recording(&least[1..]);
+    book.recording(&least);
+    for size in [4096, 4097] {
+        book.recording(&file(&vec![0x2E; size - 8], &[]));
+    }
+}
