@@ -3,40 +3,25 @@ use Prim.Native.Nat.{ℕ, zero, suc, _+_, _*_, _≤_, _<_}
 use native.Mathlib.Omega.{arith}
 use native.Mathlib.Nat.{mul-suc}
 use mathlib.Core.Path.{_≡_, refl, _∙_, ap}
-use mathlib.Core.Logic.{inl, inr, ⊎-elim}
-use mathlib.Core.Bool.{true, false, _&&_}
+use mathlib.Core.Logic.{inl, ⊎-elim}
+use mathlib.Core.Bool.{false}
 use mathlib.Core.Option.{Option, none, some}
 use mathlib.Core.List.{List, [], _∷_, _++_, append-assoc, List·Memᴰ, List·Memᴰ·head, List·Memᴰ·tail}
 use lib.ListN.{length, length-append, length-reverse}
-use lib.Dec.{eqb, ltb}
-use borrow.Author.Tests.{eqb-true, eq-eqb, ltb-true, lt-ltb}
 use Rattle.model.specs.Trace.{Trace}
 use Rattle.model.specs.Lists.{upTo, numbers}
 use Rattle.model.specs.Good.{WellFormed, maxEvents}
 use Rattle.model.specs.Listing.{Race, After, Sorted}
 use Rattle.model.specs.Decision.{witness, isConflicting, raceWith, raceOn, each, races, isAfter, firstAfter, nextRace}
-use Rattle.model.proofs.Tests.{by-cases, both, true-both, either-true, true-either, false-test}
-use Rattle.model.proofs.ListingExact.{races-listing}
+use Rattle.model.proofs.Tests.{by-cases, false-test}
+use Rattle.model.proofs.ListingExact.{races-listing, after-true, true-after}
 use Rattle.lines.specs.Lines.{raceLine, racesLine}
 use Rattle.blocks.specs.Rest.{raceLines, racesAfter, racesLeft, rest, linesLeft, Stands, start}
 use Rattle.blocks.specs.declared.Place.{Place}
 
 -- ---- the races of a list after two numbers
 
-after-true : (a b : ℕ) (x : Race) → isAfter a b x ≡ true → After a b x
-unfolding isAfter
-after-true a b x e =
-    ⊎-elim (λ p. inl (ltb-true a (x .lower) p))
-    (λ p. let q = both (eqb a (x .lower)) (ltb b (x .higher)) p in inr (eqb-true a (x .lower) (q .0), ltb-true b (x .higher) (q .1)))
-    (either-true (ltb a (x .lower)) (eqb a (x .lower) && ltb b (x .higher)) e)
-
-true-after : (a b : ℕ) (x : Race) → After a b x → isAfter a b x ≡ true
-unfolding isAfter
-true-after a b x c =
-    true-either (ltb a (x .lower)) (eqb a (x .lower) && ltb b (x .higher))
-    (⊎-elim (λ p. inl (lt-ltb a (x .lower) p)) (λ p. inr (true-both (eq-eqb a (x .lower) (p .0)) (lt-ltb b (x .higher) (p .1)))) c)
-
--- where y does not come before x, it does not come after it either, or is x
+-- a race does not come after itself, nor after one that comes after it
 not-after : (x y : Race) → ¬ After (x .lower) (x .higher) y → isAfter (x .lower) (x .higher) y ≡ false
 not-after x y n = false-test (after-true (x .lower) (x .higher) y) n
 

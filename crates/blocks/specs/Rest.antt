@@ -20,7 +20,7 @@ abbrev pub racesAfter : ℕ → ℕ → List Race → List Race
 racesAfter a b [] = []
 racesAfter a b (x ∷ l) = cond (isAfter a b x) (x ∷ l) (racesAfter a b l)
 
--- those of a trace that a place has before it
+-- the races of a trace that are still to come at a place
 unfoldable pub racesLeft : Trace → Place → List Race
 racesLeft t p = racesAfter (p .lower) (p .higher) (races t)
 
@@ -32,7 +32,7 @@ rest t p = raceLines (racesLeft t p) ++ racesLine (length (races t))
 unfoldable pub linesLeft : Trace → Place → ℕ
 linesLeft t p = suc (length (racesLeft t p))
 
--- a place's count is the number of races behind it
+-- the report comes to this place: its count and the races still to come are all the races
 unfoldable pub Stands : Trace → Place → Type 0
 Stands t p = p .count + length (racesLeft t p) ≡ length (races t)
 

@@ -23,7 +23,7 @@ pub record Goes (owed left : List ℕ) (at : ℕ) (out out′ : List ℕ) (r : �
 
 -- ---- from place to place
 
--- what writing goes by: what a search for witnesses goes by, with a list of just the entries that a trace may need; a place that the report
+-- what writing goes by: what a search for witnesses goes by, with a list of no more entries than a line has room for; a place that the report
 -- comes to, and room for a line
 pub record Writing (t : Trace) (p : Place) (prev obs rel list area : List ℕ) (at : ℕ) (out : List ℕ) : Type 0 where
   pub ready : Ready t prev obs rel list area

@@ -6,10 +6,12 @@ use mathlib.Core.Logic.{_↔_}
 use mathlib.Core.Option.{Option, none, some}
 use mathlib.Core.List.{List}
 use lib.ListN.{length}
-use Rattle.model.specs.Good.{maxEvents}
+use mir.Val.{Fits}
+use mir.Syntax.{w16}
+use Rattle.model.specs.Good.{Good, maxEvents}
 use Rattle.limits.specs.Limits.{eventBytes}
 use Rattle.format.specs.Bytes.{trace}
-use Rattle.format.specs.Layout.{Placed, eventPart, layoutRefusal, fileOf}
+use Rattle.format.specs.Layout.{Placed, eventPart, events, layoutRefusal, fileOf}
 use Rattle.format.proofs.LayoutExact.{layout-exactly}
 use Rattle.format.proofs.PartLaws.{number-of-events, part-trace, read-good, read-refused}
 use Rattle.limits.specs.declared.Refusal.{Refusal}
@@ -78,3 +80,15 @@ module _ (s : List ℕ) (f : File) where
 
       pub judged-placed : Placed s t
       judged-placed = record { layout = judged-good .layout; span = read-good s (fileRefusal eventBytes s) t (sym is ∙ e) .1 }
+
+      -- the number of events
+      pub judged-number : t .events ≡ length (events eventBytes s)
+      judged-number =
+          let p = judged-placed in
+          ap (λ (x : Span). x .events) (p .span) ∙ sym (number-of-events eventBytes s (p .layout) four)
+
+      pub judged-number-fits : Fits w16 (t .events)
+      judged-number-fits = let n = judged-number in let g = judged-good .good .size in record { fits = omega arith }
+
+      pub judged-trace : (ev : List ℕ) → ev ≡ eventPart eventBytes s → Good (trace ev)
+      judged-trace ev part = rw (part-trace s ev part) (judged-good .good)

@@ -186,14 +186,14 @@ module _ (t : Trace) where
 
 -- ---- the first after (a, b)
 
-after-true : (a b : ℕ) (x : Race) → isAfter a b x ≡ true → After a b x
+pub after-true : (a b : ℕ) (x : Race) → isAfter a b x ≡ true → After a b x
 unfolding isAfter
 after-true a b x e =
     ⊎-elim (λ p. inl (ltb-true a (x .lower) p))
     (λ p. let q = both (eqb a (x .lower)) (ltb b (x .higher)) p in inr (eqb-true a (x .lower) (q .0), ltb-true b (x .higher) (q .1)))
     (either-true (ltb a (x .lower)) (eqb a (x .lower) && ltb b (x .higher)) e)
 
-true-after : (a b : ℕ) (x : Race) → After a b x → isAfter a b x ≡ true
+pub true-after : (a b : ℕ) (x : Race) → After a b x → isAfter a b x ≡ true
 unfolding isAfter
 true-after a b x c =
     true-either (ltb a (x .lower)) (eqb a (x .lower) && ltb b (x .higher))

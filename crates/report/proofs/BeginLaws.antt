@@ -1,13 +1,12 @@
 -- The ways through `begin`, and what its callers learn.
 use Prim.Native.Nat.{ℕ, _+_, _≤_}
 use native.Mathlib.Omega.{arith}
-use mathlib.Core.Path.{_≡_, sym, _∙_, ap}
+use mathlib.Core.Path.{_≡_}
 use mathlib.Core.List.{List, [], append-nil}
 use lib.ListN.{length, length-append}
 use mir.Val.{Fits}
-use mir.Syntax.{w16, w32}
+use mir.Syntax.{w32}
 use Rattle.model.specs.Lists.{threads}
-use Rattle.model.specs.Good.{Good}
 use Rattle.limits.specs.Limits.{eventBytes}
 use Rattle.limits.specs.declared.Refusal.{Refusal}
 use Rattle.limits.specs.declared.Trace.{Trace as Span}
@@ -15,10 +14,11 @@ use Rattle.format.specs.Bytes.{trace}
 use Rattle.format.specs.Layout.{eventPart, events, fileOf}
 use Rattle.format.specs.declared.File.{File}
 use Rattle.format.specs.declared.File.the-variants.{Refused as FileRefused, Good as FileGood}
-use Rattle.format.proofs.PartLaws.{number-of-events, part-trace}
+use Rattle.format.proofs.PartLaws.{part-trace}
 use Rattle.judging.specs.Judged.{fileRefusal}
-use Rattle.judging.proofs.FileLaws.{judged-refused, judged-clean, judged-good, judged-placed}
+use Rattle.judging.proofs.FileLaws.{judged-refused, judged-clean, judged-good, judged-placed, judged-number, judged-number-fits, judged-trace}
 use Rattle.links.specs.Links.{Linked, Rooms}
+use Rattle.links.proofs.TableLaws.{tables-room}
 use Rattle.lines.specs.Lines.{decimal, eventsLine, refusedLine}
 use Rattle.lines.specs.Appended.{lineBytes, Appends}
 use Rattle.lines.proofs.DecimalLaws.{decimal-few}
@@ -36,33 +36,15 @@ module _ (s : List ℕ) (f : File) (is : f ≡ fileOf s (fileRefusal eventBytes 
   refused-begun r e a prev obs rel = begins-refused (line-goes a (report s) [] (rw (judged-refused s f is r e, append-nil)))
 
   module _ (t : Span) (e : f ≡ FileGood t) where
-    -- the number of events
-    number : t .events ≡ length (events eventBytes s)
-    number =
-        let p = judged-placed s f is t e in
-        ap (λ (x : Span). x .events) (p .span) ∙ sym (number-of-events eventBytes s (p .layout) (omega arith))
-
-    pub number-fits : Fits w16 (t .events)
-    number-fits = let n = number in let g = judged-good s f is t e .good .size in record { fits = omega arith }
-
     module _ (ev : List ℕ) (part : ev ≡ eventPart eventBytes s) where
-      pub trace-good : Good (trace ev)
-      trace-good = rw (part-trace s ev part) (judged-good s f is t e .good)
-
-      pub tables-room : {prev obs rel out : List ℕ} → Beginning prev obs rel out → Rooms (trace ev) prev obs rel
-      tables-room b =
-          let g = trace-good in
-          let h = g .size in
-          let x = b .earlier in
-          let y = b .seen in
-          let z = b .closing in
-          record { earlier = record { good = g; long = omega arith }; seen = record { good = g; long = omega arith }; closing = record { good = g; long = omega arith } }
+      pub rooms : {prev obs rel out : List ℕ} → Beginning prev obs rel out → Rooms (trace ev) prev obs rel
+      rooms b = tables-room (trace ev) (judged-trace s f is t e ev part) _ _ _ (b .earlier) (b .seen) (b .closing)
 
       -- the first line is no longer than any line
       line-short : {out out′ : List ℕ} {n : ℕ} (m : ℕ) → Fits w32 m → Appends (eventsLine (t .events) m) 0 out out′ n → n ≤ lineBytes
       unfolding eventsLine
       line-short m b a =
-          let g = number-fits .fits in
+          let g = judged-number-fits s f is t e .fits in
           let h = b .fits in
           let x = decimal-few 4 (t .events) (omega arith) in
           let y = decimal-few 9 m (omega arith) in
@@ -77,5 +59,5 @@ module _ (s : List ℕ) (f : File) (is : f ≡ fileOf s (fileRefusal eventBytes 
           let g = judged-good s f is t e .good in
           let p = part-trace s ev part in
           let q : m ≡ length (threads (events eventBytes s)) = rw p at c in
-          begins-good (line-short m b a) (line-goes a (report s) (rest (events eventBytes s) start) (rw (judged-clean s f is t e, number, q, start-rest (events eventBytes s) (g .well-formed))))
+          begins-good (line-short m b a) (line-goes a (report s) (rest (events eventBytes s) start) (rw (judged-clean s f is t e, judged-number s f is t e, q, start-rest (events eventBytes s) (g .well-formed))))
           (judged-placed s f is t e) (record { good = g; links = rw p at l })

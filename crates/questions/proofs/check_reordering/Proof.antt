@@ -1,6 +1,5 @@
 use borrow.Author.Needs.{needs}
-use Rattle.judging.proofs.FileLaws.{judged-placed}
-use Rattle.questions.proofs.AnswerLaws.{trace-good}
+use Rattle.judging.proofs.FileLaws.{judged-placed, judged-trace}
 use Rattle.questions.proofs.VerdictLaws.{refused-check, good-check}
 use Rattle.questions.proofs.check_reordering.Statement.{statement}
 use Rattle.questions.proofs.check_reordering.Tie as tie
@@ -13,6 +12,6 @@ check-reordering-spec =
     (λ c. search needs)
     (λ c. search needs)
     (λ c κs. search (judged-placed, needs))
-    (λ c κs. search (trace-good, needs))
+    (λ c κs. search (judged-trace, needs))
     (λ c. search (refused-check, needs))
     (λ c. search (good-check, needs)))

@@ -1,6 +1,5 @@
 use borrow.Author.Needs.{needs}
-use Rattle.judging.proofs.FileLaws.{judged-placed}
-use Rattle.questions.proofs.AnswerLaws.{trace-good}
+use Rattle.judging.proofs.FileLaws.{judged-placed, judged-trace}
 use Rattle.questions.proofs.VerdictLaws.{refused-verdict, good-verdict}
 use Rattle.questions.proofs.verdict.Statement.{statement}
 use Rattle.questions.proofs.verdict.Tie as tie
@@ -13,7 +12,7 @@ verdict-spec =
     (λ c. search needs)
     (λ c. search needs)
     (λ c κs. search (judged-placed, needs))
-    (λ c κs. search (trace-good, needs))
+    (λ c κs. search (judged-trace, needs))
     (λ c. search (refused-verdict, needs))
     (λ c. search needs)
     (λ c. search needs)

@@ -1,6 +1,6 @@
 use borrow.Author.Needs.{needs}
-use Rattle.judging.proofs.FileLaws.{judged-placed}
-use Rattle.report.proofs.BeginLaws.{refused-begun, number-fits, trace-good, tables-room, good-begun}
+use Rattle.judging.proofs.FileLaws.{judged-placed, judged-number-fits, judged-trace}
+use Rattle.report.proofs.BeginLaws.{refused-begun, rooms, good-begun}
 use Rattle.report.proofs.begin.Statement.{statement}
 use Rattle.report.proofs.begin.Tie as tie
 
@@ -13,9 +13,9 @@ begin-spec =
     (λ c κs. search needs)
     (λ c. search needs)
     (λ c κs. search (judged-placed, needs))
-    (λ c κs. search (tables-room, needs))
-    (λ c κs. search (trace-good, needs))
-    (λ c. search (number-fits, needs))
+    (λ c κs. search (rooms, needs))
+    (λ c κs. search (judged-trace, needs))
+    (λ c. search (judged-number-fits, needs))
     (λ c κs. search needs)
     (λ c. search needs)
     (λ c. search (refused-begun, needs))
