@@ -5,7 +5,7 @@ use mathlib.Core.Path.{_≡_, sym, _∙_, ap}
 use mathlib.Core.List.{List, _++_}
 use lib.ListN.{length, take, drop, length-drop, take-append-drop}
 use lib.Seq.{length-take-le, take-append-le, drop-append-le, take-at, drop-at}
-use Rattle.lines.specs.Appended.{Appends}
+use Rattle.appending.specs.Appended.{Appends}
 use Rattle.blocks.specs.Writing.{Goes}
 
 pub goes-in-words : {owed left : List ℕ} {at : ℕ} {out out′ : List ℕ} {r : ℕ} → Goes owed left at out out′ r → at ≤ length out

@@ -17,7 +17,8 @@ use Rattle.listing.specs.declared.Listed.{Listed}
 use Rattle.listing.specs.declared.Listed.the-variants.{NoMore, Race as RaceOn}
 use Rattle.listing.proofs.LoopLaws.{listed-none}
 use Rattle.lines.specs.Lines.{raceLine, racesLine}
-use Rattle.lines.specs.Appended.{lineBytes, Appends, RaceRoom}
+use Rattle.appending.specs.Appended.{Appends}
+use Rattle.lines.specs.Room.{lineBytes, RaceRoom}
 use Rattle.blocks.specs.Rest.{rest, linesLeft}
 use Rattle.blocks.specs.Writing.{Goes, Writing, Writes, Fills}
 use Rattle.blocks.specs.declared.Place.{Place}

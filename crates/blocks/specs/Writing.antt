@@ -6,7 +6,7 @@ use lib.ListN.{length, take, drop}
 use Rattle.model.specs.Trace.{Trace}
 use Rattle.model.specs.Good.{maxEvents}
 use Rattle.pair.specs.Pair.{Ready}
-use Rattle.lines.specs.Appended.{lineBytes, Room}
+use Rattle.lines.specs.Room.{lineBytes, Room}
 use Rattle.blocks.specs.Rest.{rest, linesLeft, Stands}
 use Rattle.blocks.specs.declared.Place.{Place}
 use Rattle.blocks.specs.declared.Written.{Written}

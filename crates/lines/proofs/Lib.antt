@@ -1,6 +1,4 @@
--- What the digits of a number are
-pub mod DecimalLaws
--- One piece of a line behind the other
-pub mod AppendLaws
+-- Numbers, one after the other
+pub mod NumbersLaws
 -- The lines, put together from their pieces
 pub mod LineLaws

@@ -8,9 +8,10 @@ use Rattle.limits.specs.Refusals.{numberOf, eventOf}
 use Rattle.limits.specs.declared.Refusal.{Refusal}
 use Rattle.limits.specs.declared.EventNumber.{EventNumber}
 use Rattle.limits.specs.declared.EventNumber.the-variants.{Absent, At}
-use Rattle.lines.specs.Lines.{spaced, spacedAll, lineEnd, eventsWord, threadsWord, raceWord, witnessWord, racesWord, atWord, refusedWord, raceHead, atEvent, eventsLine, raceLine, racesLine, refusedLine}
-use Rattle.lines.specs.Appended.{Appends, AppendsShort}
-use Rattle.lines.proofs.AppendLaws.{appends-nothing, appends-then}
+use Rattle.appending.specs.Decimal.{spaced}
+use Rattle.lines.specs.Lines.{spacedAll, lineEnd, eventsWord, threadsWord, raceWord, witnessWord, racesWord, atWord, refusedWord, raceHead, atEvent, eventsLine, raceLine, racesLine, refusedLine}
+use Rattle.appending.specs.Appended.{Appends, AppendsShort}
+use Rattle.appending.proofs.AppendLaws.{appends-nothing, appends-then}
 
 module _ {at : ℕ} {out : List ℕ} where
   pub no-event : (e : EventNumber) → e ≡ Absent → at + 9 ≤ length out → AppendsShort 9 (atEvent e) at out out at

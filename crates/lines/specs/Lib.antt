@@ -1,4 +1,4 @@
 -- The lines of the nightly report.
 pub mod Lines
--- what a function that writes a line leaves in the lent buffer
-pub mod Appended
+-- the room that each needs
+pub mod Room

@@ -2,71 +2,11 @@
 // gives how many are then.
 use limits::EventNumber;
 use limits::Refusal;
-ghost use Prim.Native.Nat.{_+_, _*_, _≤_, _<_};
-ghost use mathlib.Core.Path.{_≡_};
-ghost use mathlib.Core.List.{_∷_, []};
+ghost use Prim.Native.Nat.{_+_, _*_, _≤_};
 ghost use lib.ListN.{length, take};
-ghost use Rattle.lines.specs.Lines.{decimal, spaced, spacedAll, raceHead, atEvent, eventsLine, raceLine, racesLine, refusedLine};
-ghost use Rattle.lines.specs.Appended.{Room, Appends, AppendsShort, RaceRoom};
-
-fn put_byte(out: &mut [u8], at: usize, b: u8) -> usize
-    requires { ⌜ at + 1 ≤ length (now out) ⌝ }
-    ensures { λ r. ⌜ Appends (b ∷ []) at (now (out .entry)) (now (out .exit)) r ⌝ }
-{
-    out[at] = b;
-    at + 1
-}
-
-fn put_word(out: &mut [u8], at: usize, word: &[u8]) -> usize
-    requires { ⌜ at + length (now word) ≤ length (now out) ⌝ }
-    ensures { λ r. ⌜ Appends (now (word .entry)) at (now (out .entry)) (now (out .exit)) r ⌝ }
-{
-    let mut end = at;
-    let mut i = 0;
-    while i < word.len() {
-        end = put_byte(out, end, word[i]);
-        i += 1;
-    }
-    end
-}
-
-// A number of one digit.
-fn digit(d: u32) -> u8
-    requires { ⌜ d < 10 ⌝ }
-    ensures { λ r. ⌜ decimal d ≡ r ∷ [] ⌝ }
-{
-    b'0' + d as u8
-}
-
-// A number in decimal: what stands before its last digit is a number again.
-fn put_decimal(out: &mut [u8], at: usize, n: u32) -> usize
-    requires { ⌜ at + length (decimal n) ≤ length (now out) ⌝ }
-    ensures { λ r. ⌜ Appends (decimal n) at (now (out .entry)) (now (out .exit)) r ⌝ }
-{
-    if n < 10 {
-        return put_byte(out, at, digit(n));
-    }
-    let end = put_decimal(out, at, n / 10);
-    put_byte(out, end, digit(n % 10))
-}
-
-// A number after a space.
-fn put_number(out: &mut [u8], at: usize, n: u32) -> usize
-    requires { ⌜ at + 11 ≤ length (now out) ⌝ }
-    ensures { λ r. ⌜ AppendsShort 11 (spaced n) at (now (out .entry)) (now (out .exit)) r ⌝ }
-{
-    let end = put_byte(out, at, b' ');
-    put_decimal(out, end, n)
-}
-
-// An event's number after a space: a line of 512 of them must fit, so that their room counts.
-fn put_event(out: &mut [u8], at: usize, k: u16) -> usize
-    requires { ⌜ at + 6 ≤ length (now out) ⌝ }
-    ensures { λ r. ⌜ AppendsShort 6 (spaced k) at (now (out .entry)) (now (out .exit)) r ⌝ }
-{
-    let end = put_byte(out, at, b' ');
-    put_decimal(out, end, k as u32)
-}
+ghost use Rattle.appending.specs.Appended.{Appends, AppendsShort};
+ghost use Rattle.lines.specs.Lines.{spacedAll, raceHead, atEvent, eventsLine, raceLine, racesLine, refusedLine};
+ghost use Rattle.lines.specs.Room.{Room, RaceRoom};
 
 // The first n numbers of a list, each after a space.
 fn put_events(out: &mut [u8], at: usize, list: &[u16], n: u16) -> usize
@@ -77,7 +17,7 @@ fn put_events(out: &mut [u8], at: usize, list: &[u16], n: u16) -> usize
     let mut end = at;
     let mut i = 0;
     while i < last {
-        end = put_event(out, end, list[i]);
+        end = appending::put_event(out, end, list[i]);
         i += 1;
     }
     end
@@ -87,11 +27,11 @@ pub fn events(out: &mut [u8], at: usize, n: u16, m: u32) -> usize
     requires { ⌜ Room at (now out) ⌝ }
     ensures { λ r. ⌜ Appends (eventsLine n m) at (now (out .entry)) (now (out .exit)) r ⌝ }
 {
-    let word = put_word(out, at, b"events");
-    let number = put_event(out, word, n);
-    let second = put_word(out, number, b" threads");
-    let end = put_number(out, second, m);
-    put_byte(out, end, b'\n')
+    let word = appending::put_word(out, at, b"events");
+    let number = appending::put_event(out, word, n);
+    let second = appending::put_word(out, number, b" threads");
+    let end = appending::put_number(out, second, m);
+    appending::put_byte(out, end, b'\n')
 }
 
 // The line of a race as far as its witness.
@@ -99,10 +39,10 @@ fn put_race(out: &mut [u8], at: usize, a: u16, b: u16) -> usize
     requires { ⌜ at + 24 ≤ length (now out) ⌝ }
     ensures { λ r. ⌜ AppendsShort 24 (raceHead a b) at (now (out .entry)) (now (out .exit)) r ⌝ }
 {
-    let word = put_word(out, at, b"race");
-    let lower = put_event(out, word, a);
-    let higher = put_event(out, lower, b);
-    put_word(out, higher, b" witness")
+    let word = appending::put_word(out, at, b"race");
+    let lower = appending::put_event(out, word, a);
+    let higher = appending::put_event(out, lower, b);
+    appending::put_word(out, higher, b" witness")
 }
 
 // The line of a race, whose witness is the first n numbers of a list.
@@ -112,16 +52,16 @@ pub fn race(out: &mut [u8], at: usize, a: u16, b: u16, list: &[u16], n: u16) -> 
 {
     let head = put_race(out, at, a, b);
     let witness = put_events(out, head, list, n);
-    put_byte(out, witness, b'\n')
+    appending::put_byte(out, witness, b'\n')
 }
 
 pub fn races(out: &mut [u8], at: usize, k: u32) -> usize
     requires { ⌜ Room at (now out) ⌝ }
     ensures { λ r. ⌜ Appends (racesLine k) at (now (out .entry)) (now (out .exit)) r ⌝ }
 {
-    let word = put_word(out, at, b"races");
-    let end = put_number(out, word, k);
-    put_byte(out, end, b'\n')
+    let word = appending::put_word(out, at, b"races");
+    let end = appending::put_number(out, word, k);
+    appending::put_byte(out, end, b'\n')
 }
 
 // The event that a refusal speaks of, where there is one.
@@ -132,8 +72,8 @@ fn put_at(out: &mut [u8], at: usize, e: EventNumber) -> usize
     match e {
         EventNumber::Absent => at,
         EventNumber::At(k) => {
-            let word = put_word(out, at, b" at");
-            put_event(out, word, k)
+            let word = appending::put_word(out, at, b" at");
+            appending::put_event(out, word, k)
         }
     }
 }
@@ -142,8 +82,8 @@ pub fn refused(out: &mut [u8], at: usize, r: Refusal) -> usize
     requires { ⌜ Room at (now out) ⌝ }
     ensures { λ end. ⌜ Appends (refusedLine r) at (now (out .entry)) (now (out .exit)) end ⌝ }
 {
-    let word = put_word(out, at, b"refused");
-    let number = put_number(out, word, r.number() as u32);
+    let word = appending::put_word(out, at, b"refused");
+    let number = appending::put_number(out, word, r.number() as u32);
     let end = put_at(out, number, r.event());
-    put_byte(out, end, b'\n')
+    appending::put_byte(out, end, b'\n')
 }

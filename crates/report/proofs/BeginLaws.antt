@@ -19,9 +19,11 @@ use Rattle.judging.specs.Judged.{fileRefusal}
 use Rattle.judging.proofs.FileLaws.{judged-refused, judged-clean, judged-good, judged-placed, judged-number, judged-number-fits, judged-trace}
 use Rattle.links.specs.Links.{Linked, Rooms}
 use Rattle.links.proofs.TableLaws.{tables-room}
-use Rattle.lines.specs.Lines.{decimal, eventsLine, refusedLine}
-use Rattle.lines.specs.Appended.{lineBytes, Appends}
-use Rattle.lines.proofs.DecimalLaws.{decimal-few}
+use Rattle.appending.specs.Decimal.{decimal}
+use Rattle.lines.specs.Lines.{eventsLine, refusedLine}
+use Rattle.appending.specs.Appended.{Appends}
+use Rattle.lines.specs.Room.{lineBytes}
+use Rattle.appending.proofs.DecimalLaws.{decimal-few}
 use Rattle.blocks.specs.Rest.{rest, start}
 use Rattle.report.specs.Report.{report}
 use Rattle.report.specs.Whole.{Beginning, Begins, begins-refused, begins-good}

@@ -14,7 +14,7 @@ use Rattle.format.specs.Layout.{Placed, eventPart, events}
 use Rattle.format.proofs.PartLaws.{part-trace}
 use Rattle.bits.specs.Marks.{Clear}
 use Rattle.pair.specs.Pair.{inFront}
-use Rattle.lines.specs.Appended.{lineBytes}
+use Rattle.lines.specs.Room.{lineBytes}
 use Rattle.blocks.specs.Rest.{rest, start}
 use Rattle.blocks.specs.Writing.{Goes, Writing, Fills}
 use Rattle.report.specs.Report.{report}

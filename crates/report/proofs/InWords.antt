@@ -10,7 +10,7 @@ use Rattle.limits.specs.declared.Refusal.{Refusal}
 use Rattle.format.specs.Layout.{events}
 use Rattle.judging.specs.Judged.{fileRefusal}
 use Rattle.lines.specs.Lines.{eventsLine, refusedLine}
-use Rattle.lines.specs.Appended.{lineBytes}
+use Rattle.lines.specs.Room.{lineBytes}
 use Rattle.report.specs.Report.{reportBy, report}
 use Rattle.report.specs.Whole.{Reports, all, short}
 

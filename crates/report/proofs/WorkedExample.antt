@@ -14,7 +14,8 @@ use Rattle.model.specs.Decision.{shownFor, isAccess, isConflicting, raceOn, rac
 use Rattle.format.specs.Bytes.{eventsFrom, traceOf}
 use Rattle.format.specs.Layout.{distance, count, start, eventPart, events, isMarked, isPointed, layoutRefusal}
 use Rattle.judging.specs.Judged.{fileRefusal}
-use Rattle.lines.specs.Lines.{decimal, eventsLine, raceHead, raceLine, racesLine}
+use Rattle.appending.specs.Decimal.{decimal}
+use Rattle.lines.specs.Lines.{eventsLine, raceHead, raceLine, racesLine}
 use Rattle.report.specs.Report.{report}
 
 -- the paper's bytes of Q: eight events of four bytes, and the trailer

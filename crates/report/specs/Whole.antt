@@ -10,7 +10,7 @@ use Rattle.limits.specs.declared.Trace.{Trace as Span}
 use Rattle.format.specs.Layout.{events, Placed}
 use Rattle.links.specs.Links.{Linked}
 use Rattle.pair.specs.Pair.{inFront}
-use Rattle.lines.specs.Appended.{lineBytes, Room}
+use Rattle.lines.specs.Room.{lineBytes, Room}
 use Rattle.blocks.specs.Rest.{rest, start}
 use Rattle.blocks.specs.Writing.{Goes}
 use Rattle.report.specs.Report.{report}

@@ -1,6 +1,6 @@
 use Prim.Native.Nat.{_-_}
 use borrow.Author.Needs.{needs}
-use Rattle.lines.proofs.AppendLaws.{Written, events-start, events-on, events-over}
+use Rattle.lines.proofs.NumbersLaws.{Written, events-start, events-on, events-over}
 use Rattle.lines.proofs.put_events.Statement.{statement}
 use Rattle.lines.proofs.put_events.Tie as tie
 

@@ -1,5 +1,5 @@
 -- One piece of a line behind the other.
-use Prim.Native.Nat.{ℕ, suc, _+_, _*_, _/_, _%_, _^_, _≤_, _<_}
+use Prim.Native.Nat.{ℕ, suc, _+_, _/_, _%_, _^_, _≤_, _<_}
 use native.Mathlib.Omega.{arith}
 use native.Mathlib.Numerals.{add-one}
 use mathlib.Core.Path.{_≡_, refl, sym, _∙_, ap}
@@ -11,9 +11,9 @@ use borrow.Author.Tests.{ltb-true, ltb-false}
 use mir.Syntax.{w16, w32}
 use mir.Val.{Fits}
 use Rattle.model.proofs.Tests.{by-cases}
-use Rattle.lines.specs.Lines.{decimal, spaced, spacedAll}
-use Rattle.lines.specs.Appended.{Appends, AppendsShort}
-use Rattle.lines.proofs.DecimalLaws.{decimal-one, decimal-more, decimal-few}
+use Rattle.appending.specs.Decimal.{decimal, spaced}
+use Rattle.appending.specs.Appended.{Appends, AppendsShort}
+use Rattle.appending.proofs.DecimalLaws.{decimal-one, decimal-more, decimal-few}
 
 pub appends-nothing : (at : ℕ) (out : List ℕ) → at ≤ length out → Appends [] at out out at
 appends-nothing at out h = record { front = sym (append-nil _); rest = refl; ends = omega arith; within = h; same = refl }
@@ -115,31 +115,3 @@ module _ (n : ℕ) {at : ℕ} {out mid : List ℕ} {p : ℕ} where
 
   pub event-put : Fits w16 n → Appends (32 ∷ []) at out mid p → {out′ : List ℕ} {r : ℕ} → Appends (decimal n) p mid out′ r → AppendsShort 6 (spaced n) at out out′ r
   event-put f a b = after-space 4 n (omega arith) a b
-
--- ---- numbers, one after the other
-
-spaced-append : (l m : List ℕ) → spacedAll (l ++ m) ≡ spacedAll l ++ spacedAll m
-spaced-append [] m = refl
-spaced-append (k ∷ l) m = rw (spaced-append l m) (sym (append-assoc (spaced k) (spacedAll l) (spacedAll m)))
-
-spaced-more : (list : List ℕ) (i : ℕ) → i < length list → spacedAll (take (i + 1) list) ≡ spacedAll (take i list) ++ spaced (getD list i 0)
-spaced-more list i h = rw (add-one i, take-suc list i 0 h, spaced-append (take i list) (getD list i 0 ∷ []), append-nil (spaced (getD list i 0)))
-
--- the first i of n numbers are written
-pub record Written (list : List ℕ) (n at : ℕ) (out₀ out : List ℕ) (end i : ℕ) : Type 0 where
-  pub done : AppendsShort (6 * i) (spacedAll (take i list)) at out₀ out end
-  pub upto : i ≤ n
-
-pub events-start : (list : List ℕ) (n at : ℕ) (out : List ℕ) → at + 6 * n ≤ length out → Written list n at out out at 0
-events-start list n at out h = record { done = record { appends = appends-nothing at out (omega arith); short = omega arith }; upto = omega arith }
-
-module _ {list : List ℕ} {n at : ℕ} {out₀ out : List ℕ} {end i : ℕ} (w : Written list n at out₀ out end i) where
-  pub events-on : n ≤ length list → i < n → {out′ : List ℕ} {r : ℕ} → AppendsShort 6 (spaced (getD list i 0)) end out out′ r → Written list n at out₀ out′ r (i + 1)
-  events-on h l b =
-      let a = w .done in record {
-        done = record { appends = rw (spaced-more list i (omega arith)) (appends-then (a .appends) (b .appends)); short = let e = a .short in let f = b .short in omega arith };
-        upto = omega arith;
-      }
-
-  pub events-over : n ≤ i → AppendsShort (6 * n) (spacedAll (take n list)) at out₀ out end
-  events-over g = let u = w .upto in let e : i ≡ n = omega arith in rw e at (w .done)

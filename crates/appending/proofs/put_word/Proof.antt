@@ -1,9 +1,9 @@
 use Prim.Native.Nat.{_-_}
 use lib.ListN.{length}
 use borrow.Author.Needs.{needs}
-use Rattle.lines.proofs.AppendLaws.{Copied, word-start, word-on, word-over}
-use Rattle.lines.proofs.put_word.Statement.{statement}
-use Rattle.lines.proofs.put_word.Tie as tie
+use Rattle.appending.proofs.AppendLaws.{Copied, word-start, word-on, word-over}
+use Rattle.appending.proofs.put_word.Statement.{statement}
+use Rattle.appending.proofs.put_word.Tie as tie
 
 abbrev Inv-loop : tie.InvT-loop
 Inv-loop out₀ at word end₀ i₀ out end i = Copied word at out₀ out end i

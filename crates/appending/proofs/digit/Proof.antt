@@ -1,7 +1,7 @@
 use borrow.Author.Needs.{needs}
-use Rattle.lines.proofs.DecimalLaws.{decimal-one}
-use Rattle.lines.proofs.digit.Statement.{statement}
-use Rattle.lines.proofs.digit.Tie as tie
+use Rattle.appending.proofs.DecimalLaws.{decimal-one}
+use Rattle.appending.proofs.digit.Statement.{statement}
+use Rattle.appending.proofs.digit.Tie as tie
 
 pub digit-spec : {M : Type 1} → statement M
 digit-spec = tie.close (tie.spec (λ c. search needs) (λ c. search needs) (λ c. search (decimal-one, needs)))

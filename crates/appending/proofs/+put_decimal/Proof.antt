@@ -2,14 +2,14 @@ use Prim.Native.Nat.{ℕ, _<_}
 use borrow.Author.Needs.{needs}
 use borrow.Fn.Kinds.{In}
 use borrow.Fn.PlainCycle.{Measures, is, falls, and}
-use Rattle.lines.proofs.AppendLaws.{digit-room, first-digit, higher-room, next-digit-room, next-digit}
-use Rattle.lines.proofs.put_decimal.Reads as put-decimal
-use Rattle.lines.proofs.put_decimal.Kinds as kinds
-use Rattle.lines.proofs.+put_decimal.Lts-put_decimal as lts
-use Rattle.lines.proofs.digit.Reads as digit-reads
-use Rattle.lines.proofs.put_byte.Reads as put-byte-reads
-use Rattle.lines.proofs.+put_decimal.{statement}
-use Rattle.lines.proofs.+put_decimal.Tie.{close}
+use Rattle.appending.proofs.AppendLaws.{digit-room, first-digit, higher-room, next-digit-room, next-digit}
+use Rattle.appending.proofs.put_decimal.Reads as put-decimal
+use Rattle.appending.proofs.put_decimal.Kinds as kinds
+use Rattle.appending.proofs.+put_decimal.Lts-put_decimal as lts
+use Rattle.appending.proofs.digit.Reads as digit-reads
+use Rattle.appending.proofs.put_byte.Reads as put-byte-reads
+use Rattle.appending.proofs.+put_decimal.{statement}
+use Rattle.appending.proofs.+put_decimal.Tie.{close}
 
 -- the number itself falls
 abbrev μ : Measures 1 kinds.ps ℕ

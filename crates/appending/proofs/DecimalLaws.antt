@@ -9,7 +9,7 @@ use lib.ListN.{length, getD, length-append}
 use lib.Dec.{ltb}
 use borrow.Author.Tests.{ltb-true, ltb-false}
 use Rattle.model.proofs.Tests.{by-cases}
-use Rattle.lines.specs.Lines.{digits, decimal, valueFrom, InDecimal}
+use Rattle.appending.specs.Decimal.{digits, decimal, valueFrom, InDecimal}
 
 -- ---- one digit more
 
