@@ -170,11 +170,9 @@ impl Search<'_> {
         let object = self.events[k].object;
         match self.events[k].kind {
             READ => {
-                let last = other[..j]
-                    .iter()
-                    .rev()
-                    .find(|&&w| self.is(w, WRITE, object));
-                !self.sees_other(k) || last == Some(&self.observed[k])
+                let passed = || other[..j].iter().rev();
+                let last = || passed().find(|&&w| self.is(w, WRITE, object));
+                !self.sees_other(k) || last() == Some(&self.observed[k])
             }
             WRITE => {
                 self.reads_ahead(&other[j..], object)

@@ -29,11 +29,16 @@ impl Book {
     }
 
     fn line(&mut self, asked: &str, answer: &str) {
-        assert!(asked.len() <= 16_000, "a line too long");
+        assert!(asked.len().max(answer.len()) <= 16_000, "a line too long");
         self.stdin.push_str(asked);
         self.stdin.push('\n');
         self.stdout.push_str(answer);
         self.stdout.push('\n');
+    }
+
+    /// The last answer must be this one, which a paper states.
+    pub fn assert_answer(&self, answer: &str) {
+        assert_eq!(self.stdout.lines().last(), Some(answer));
     }
 
     fn count(&mut self, what: String) {
@@ -113,8 +118,10 @@ impl Book {
         };
         self.count_asking(3, said.split(':').next().unwrap_or(""));
         let kept = lent.iter().filter(|e| **e == 9999).count();
-        let zero = work.iter().filter(|b| **b == 0).count();
-        let places = format!("; {kept} of {entries} entries as lent, {zero} of {area} bytes zero");
+        let places = format!(
+            "; {kept} of {entries} entries as lent, {}",
+            area_words(&work)
+        );
         self.line(&format!("?3 {a} {b} {entries} {area}"), &(said + &places));
     }
 
@@ -126,8 +133,7 @@ impl Book {
             Err(refusal) => refusal.words(),
         };
         self.count_asking(4, &said);
-        let zero = work.iter().filter(|b| **b == 0).count();
-        let answer = format!("{said}; {zero} of {area} bytes zero");
+        let answer = format!("{said}; {}", area_words(&work));
         self.line(&format!("?4 {a} {b} {area}"), &answer);
     }
 
@@ -211,6 +217,19 @@ fn shape(study: &Study, pair: &Pair) -> Vec<String> {
 fn refused_line(refusal: &Refusal) -> String {
     let words = refusal.words();
     format!("{words} | {words} | {words} | {words} | {words} | note 0")
+}
+
+/// What is left of a work area: how many of the bytes that a question may use are zero, and how
+/// many of those behind them are as they were lent.
+fn area_words(work: &[u8]) -> String {
+    let (used, behind) = work.split_at(work.len().min(AREA));
+    let zero = used.iter().filter(|b| **b == 0).count();
+    let kept = behind.iter().filter(|b| **b == 170).count();
+    format!(
+        "{zero} of {} bytes zero, {kept} of {} behind as lent",
+        used.len(),
+        behind.len()
+    )
 }
 
 fn good_line(asked: &Asked, study: &Study) -> String {

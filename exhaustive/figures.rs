@@ -118,6 +118,7 @@ fn more_of_000(book: &mut Book) {
     };
     put(book, title, FIGURE_9, &[missed]);
     book.ask5(5, 16, &[10, 11, 12, 13, 1, 7, 8, 9, 14, 15, 2, 3, 4]);
+    book.assert_answer("yes");
     book.ask5(5, 16, &[1, 7, 8, 9, 10, 11, 12, 2, 3, 4, 13, 14, 15]);
 }
 

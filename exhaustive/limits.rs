@@ -160,7 +160,7 @@ fn numbers_of_threads(book: &mut Book) {
     for n in 1..=16u8 {
         let down = (0..n).map(|t| w(15 - t, 0));
         book.recording(&file(&[], &down.collect::<Vec<_>>()));
-        let again = (0..2 * n).map(|t| r(t * 7 % n, 1));
+        let again = (0..2 * n).map(|t| r(t % n, 1));
         book.recording(&file(&[], &again.collect::<Vec<_>>()));
     }
 }

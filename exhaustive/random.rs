@@ -43,6 +43,7 @@ pub fn put_longer(book: &mut Book, chance: &mut Chance, turn: usize) {
     };
     book.recording(&file(&[], &events));
     ask_a_few(book, chance, 3);
+    book.random.push(events);
 }
 
 /// One random recording with its askings.

@@ -8,7 +8,7 @@ use crate::questions::first_fault;
 use crate::recording::{acq, count_threads, may_come_next, r, rel, w, Event, Kind};
 use crate::rules::{brings_next, List};
 use crate::short::every;
-use crate::study::{conflicting_pairs, shown_by_merges};
+use crate::study::{conflicting_pairs, shown_by_merges, SHORT};
 
 type Known = (usize, usize, Option<List>);
 
@@ -245,21 +245,25 @@ pub fn confirm_short() {
     );
 }
 
-/// The confirmations for the random recordings.
+/// How many lengthenings of a random recording are tried: few where visiting every correct
+/// reordering takes long.
+fn times(events: &[Event], by_two: bool) -> usize {
+    match (by_two, events.len() > SHORT) {
+        (true, true) => 1,
+        (true, false) => 10,
+        (false, _) => 20,
+    }
+}
+
+/// The confirmations for the random recordings and the worked examples.
 pub fn confirm_random(recordings: &[Vec<Event>]) {
     let mut chance = Chance::new(11);
     for by_two in [true, false] {
         let mut tally = Tally::default();
-        for events in recordings {
-            if (count_threads(events) <= 2) == by_two {
-                some_of(
-                    events,
-                    1,
-                    if by_two { 10 } else { 20 },
-                    &mut chance,
-                    &mut tally,
-                );
-            }
+        let of_these = |e: &&Vec<Event>| (count_threads(e) <= 2) == by_two;
+        for events in recordings.iter().filter(of_these) {
+            let times = times(events, by_two);
+            some_of(events, 1, times, &mut chance, &mut tally);
         }
         let who = if by_two {
             "at most two"
@@ -267,7 +271,7 @@ pub fn confirm_random(recordings: &[Vec<Event>]) {
             "three or four"
         };
         tally.print(&format!(
-            "random recordings by {who} threads, lengthenings at random"
+            "random recordings and worked examples by {who} threads, lengthenings at random"
         ));
     }
 }

@@ -37,6 +37,8 @@ impl Study {
         let lists = short.then(|| all_correct(events));
         let visited = short || threads <= 2 && events.len() <= SHORT_BY_TWO;
         let predictable = visited.then(|| predictable_pairs(events));
+        let predictable =
+            predictable.or_else(|| (threads <= 2).then(|| predictable_by_two(events)));
         let pairs = conflicting_pairs(events)
             .into_iter()
             .map(|pair| study_pair(events, lists.as_deref(), predictable.as_deref(), pair))
@@ -82,6 +84,22 @@ pub fn predictable_pairs(events: &[Event]) -> Vec<(usize, usize)> {
             }
             !brought
         });
+    });
+    found
+}
+
+/// The predictable races of a longer recording by two threads. A list that brings both next has
+/// exactly the events before a and those before b in their threads, so that every such list is
+/// one of the merges of the two.
+fn predictable_by_two(events: &[Event]) -> Vec<(usize, usize)> {
+    let mut found = conflicting_pairs(events);
+    found.retain(|(a, b)| {
+        let thread = |e: usize| events[e - 1].thread;
+        let before = |e: usize| {
+            e > 0 && (e < *a && thread(e) == thread(*a) || e < *b && thread(e) == thread(*b))
+        };
+        let inside: Vec<bool> = (0..=events.len()).map(before).collect();
+        !correct_merges(events, &inside, thread(*a)).is_empty()
     });
     found
 }

@@ -96,6 +96,7 @@ fn u_and_v(book: &mut Book) {
     put(book, title, U, &[(1, 3, &[]), (2, 4, &[1, 3])]);
     book.ask5(2, 4, &[1, 3]);
     book.ask5(2, 4, &[3, 1]);
+    book.assert_answer("no 23");
     book.ask5(1, 3, &[]);
     book.ask4(1, 3, AREA);
     book.ask4(2, 3, AREA);
@@ -115,6 +116,7 @@ fn w_and_x(book: &mut Book) {
     put(book, title, W, &races);
     book.ask3(1, 7, 7, AREA);
     book.ask5(1, 7, &[2, 3, 6]);
+    book.assert_answer("yes");
     book.ask5(1, 7, &[2, 3]);
     book.ask5(1, 7, &[2, 3, 4, 5, 6]);
     book.ask5(4, 7, &[2, 3, 6]);

@@ -114,12 +114,12 @@ fn entries_left(list: &[u16]) -> u64 {
     n
 }
 
-// How many bytes of a work area are zero.
-fn zero_bytes(area: &[u8]) -> u64 {
+// How many bytes hold b.
+fn bytes_with(bytes: &[u8], b: u8) -> u64 {
     let mut n = 0u64;
     let mut i = 0;
-    while i < area.len() {
-        n += one(area[i] == 0);
+    while i < bytes.len() {
+        n += one(bytes[i] == b);
         i += 1;
     }
     n
@@ -131,10 +131,15 @@ fn say_left(list: &[u16]) {
     word(b" entries as lent, ");
 }
 
-fn say_zero(area: &[u8]) {
-    number(zero_bytes(area));
-    count(b" of ", area.len() as u64);
-    word(b" bytes zero");
+// How many of the bytes that a question may use are zero, and how many of those behind them are as they were lent.
+fn say_area(area: &[u8]) {
+    let used = at_most(Trace::AREA_BYTES, area.len());
+    let rest = area.len() - used;
+    number(bytes_with(&area[0..used], 0));
+    count(b" of ", used as u64);
+    count(b" bytes zero, ", bytes_with(&area[used..], BYTE));
+    count(b" of ", rest as u64);
+    word(b" behind as lent");
 }
 
 // Question 3 with a list of so many entries and an area of so many bytes, and what is left of them.
@@ -148,7 +153,7 @@ pub fn ask_verdict(file: &[u8], a: u16, b: u16, entries: u16, bytes: usize) {
     let f = questions::verdict(file, a, b, list, area);
     say_finding(f, list);
     say_left(list);
-    say_zero(area);
+    say_area(area);
 }
 
 // Question 4 with an area of so many bytes, and what is left of it.
@@ -158,7 +163,7 @@ pub fn ask_next(file: &[u8], a: u16, b: u16, bytes: usize) {
     let area = &mut bytes_lent[0..n];
     say_next(questions::next_race(file, a, b, area));
     word(b"; ");
-    say_zero(area);
+    say_area(area);
 }
 
 // Questions 3, 4 and 5, as a refused recording is asked them: of (1, 2), from (0, 0) on, and of (1, 2) with the empty list.

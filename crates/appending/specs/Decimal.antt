@@ -6,7 +6,7 @@ use mathlib.Core.List.{List, [], _∷_, _++_, List·Memᴰ}
 use lib.ListN.{getD}
 use lib.Dec.{ltb}
 
--- the digits of n, the highest first; f is more than how many there are
+-- the digits of n, the highest first; f is at least how many there are
 abbrev pub digits : ℕ → ℕ → List ℕ
 digits zero n = []
 digits (suc f) n = cond (ltb n 10) ((48 + n) ∷ []) (digits f (n / 10) ++ ((48 + n % 10) ∷ []))

@@ -1,4 +1,4 @@
-// Question 5: the check of a proposed list, in one pass over it.
+// The check behind question 5: a proposed list, in one pass over it.
 use limits::Event;
 use limits::Thread;
 ghost use mathlib.Core.Path.{_≡_};

@@ -55,7 +55,7 @@ fn answer(line: &[u8], file: &mut [u8], n: usize) -> usize
     m
 }
 
-// Moves the bytes from `at` on and below `end` to the front; how many they are. A line that fills the whole text is given up.
+// Moves the bytes from `at` on and below `end` to the front; how many they are. Of a line that fills the whole text, what was read is given up.
 fn keep(text: &mut [u8], at: usize, end: usize) -> usize
     requires { ⌜ (at ≤ end) × (end ≤ length (now text)) ⌝ }
     ensures { λ r. ⌜ r ≤ length (now (text .entry)) ⌝ }

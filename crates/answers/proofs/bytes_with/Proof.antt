@@ -1,17 +1,17 @@
 use borrow.Author.Needs.{needs}
 use Prim.Native.Nat.{_≤_, _-_}
 use lib.ListN.{length}
-use Rattle.answers.proofs.zero_bytes.Statement.{statement}
-use Rattle.answers.proofs.zero_bytes.Tie as tie
+use Rattle.answers.proofs.bytes_with.Statement.{statement}
+use Rattle.answers.proofs.bytes_with.Tie as tie
 
 abbrev Inv-loop : tie.InvT-loop
-Inv-loop area n₀ i₀ n i = (n ≤ i) × (i ≤ length area)
+Inv-loop bytes b n₀ i₀ n i = (n ≤ i) × (i ≤ length bytes)
 
 abbrev μ-loop : tie.MeasureT-loop
-μ-loop area n₀ i₀ n i = length area - i
+μ-loop bytes b n₀ i₀ n i = length bytes - i
 
-pub zero-bytes-spec : {M : Type 1} → statement M
-zero-bytes-spec =
+pub bytes-with-spec : {M : Type 1} → statement M
+bytes-with-spec =
     tie.close
     (tie.spec
     Inv-loop
