@@ -16,7 +16,7 @@ use Rattle.model.specs.Decision.{witness, isConflicting, raceWith, raceOn, each
 use Rattle.model.proofs.Tests.{by-cases, false-test}
 use Rattle.model.proofs.ListingExact.{races-listing, after-true, true-after}
 use Rattle.lines.specs.Lines.{raceLine, racesLine}
-use Rattle.blocks.specs.Rest.{raceLines, racesAfter, racesLeft, rest, linesLeft, Stands, start}
+use Rattle.blocks.specs.Rest.{raceLines, racesAfter, racesLeft, lastLine, rest, linesLeft, Stands, start}
 use Rattle.blocks.specs.declared.Place.{Place}
 
 -- ---- the races of a list after two numbers
@@ -103,6 +103,10 @@ few-races t h =
 pub some-line : (t : Trace) (p : Place) → 0 < linesLeft t p
 unfolding linesLeft
 some-line t p = omega arith
+
+pub last-left : (t : Trace) (p : Place) → length (lastLine t) ≤ length (rest t p)
+unfolding rest
+last-left t p = let n = length-append (raceLines (racesLeft t p)) (lastLine t) in omega arith
 
 module _ (t : Trace) (w : WellFormed t) where
   start-left : racesLeft t start ≡ races t

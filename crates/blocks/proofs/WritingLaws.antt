@@ -59,8 +59,19 @@ module _ {t : Trace} {p : Place} {prev obs rel list area : List ℕ} {at : ℕ} 
   line-ended e a =
       let w = g .ready .good .well-formed in
       let n = listed-none (nextRace t (p .lower) (p .higher)) (sym e ∙ h .says) in
-      let c : rest t p ≡ racesLine (p .count) = rest-end t w p n ∙ ap racesLine (sym (count-end t w p n (g .stands))) in
-      record { goes = line-goes a (rest t p) [] (c ∙ sym (append-nil (racesLine (p .count)))); fewer = some-line t p; stands = tt; area-same = h .same; list-long = long }
+      let k = count-end t w p n (g .stands) in
+      let c : rest t p ≡ racesLine (p .count) = rest-end t w p n ∙ ap racesLine (sym k) in
+      let l = ap (λ (i : ℕ). length (racesLine i)) k in
+      let i = a .ends in
+      let m = g .room in
+      record {
+        goes = line-goes a (rest t p) [] (c ∙ sym (append-nil (racesLine (p .count))));
+        fewer = some-line t p;
+        stands = tt;
+        roomy = omega arith;
+        area-same = h .same;
+        list-long = long;
+      }
 
   by-race : (y : Race) → nextRace t (p .lower) (p .higher) ≡ some y → (k j : ℕ) → k ≡ y .lower → j ≡ y .higher → {out′ : List ℕ} {r : ℕ}
       → Appends (raceLine k j (y .witness)) at out out′ r → Writes t p list list′ area area′ at out out′ (More r (record { lower = k; higher = j; count = p .count + 1 }))
@@ -72,6 +83,7 @@ module _ {t : Trace} {p : Place} {prev obs rel list area : List ℕ} {at : ℕ} 
         goes = line-goes b (rest t p) (rest t (record { lower = y .lower; higher = y .higher; count = c })) (rest-race t w p y e c);
         fewer = fewer-lines t w p y e c;
         stands = stands-next t w p y e c (g .stands) refl;
+        roomy = tt;
         area-same = h .same;
         list-long = long;
       })
@@ -145,8 +157,10 @@ module _ {t : Trace} {p : Place} {prev obs rel list₀ area₀ : List ℕ} {at :
   pub fill-ended : (n : ℕ) → w ≡ Ended n → Fills t p list₀ list′ area₀ area′ at out₀ out′ (Ended n)
   fill-ended n e =
       let y : Writes t q list list′ area area′ m out out′ (Ended n) = rw e at x in
+      let l = f .out-long in
+      let h = y .roomy in
       record {
-        writes = record { goes = goes-on (f .goes) (y .goes); fewer = some-line t p; stands = tt; area-same = y .area-same ∙ f .area-is; list-long = y .list-long ∙ f .list-long };
+        writes = record { goes = goes-on (f .goes) (y .goes); fewer = some-line t p; stands = tt; roomy = omega arith; area-same = y .area-same ∙ f .area-is; list-long = y .list-long ∙ f .list-long };
         full = tt;
       }
 
@@ -168,7 +182,7 @@ module _ {t : Trace} {p : Place} {prev obs rel list₀ area₀ : List ℕ} {at :
         let b = y .goes .same in
         let c = f .out-long in
         record {
-          writes = record { goes = goes-on (f .goes) (y .goes); fewer = omega arith; stands = y .stands; area-same = y .area-same ∙ f .area-is; list-long = y .list-long ∙ f .list-long };
+          writes = record { goes = goes-on (f .goes) (y .goes); fewer = omega arith; stands = y .stands; roomy = tt; area-same = y .area-same ∙ f .area-is; list-long = y .list-long ∙ f .list-long };
           full = omega arith;
         }
 

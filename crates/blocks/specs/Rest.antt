@@ -24,9 +24,13 @@ racesAfter a b (x ∷ l) = cond (isAfter a b x) (x ∷ l) (racesAfter a b l)
 unfoldable pub racesLeft : Trace → Place → List Race
 racesLeft t p = racesAfter (p .lower) (p .higher) (races t)
 
+-- the last line of the report of a good file: how many races it has
+abbrev pub lastLine : Trace → List ℕ
+lastLine t = racesLine (length (races t))
+
 -- the report of a good file from a place on
 unfoldable pub rest : Trace → Place → List ℕ
-rest t p = raceLines (racesLeft t p) ++ racesLine (length (races t))
+rest t p = raceLines (racesLeft t p) ++ lastLine t
 
 -- how many lines that is
 unfoldable pub linesLeft : Trace → Place → ℕ

@@ -7,7 +7,7 @@ use Rattle.model.specs.Trace.{Trace}
 use Rattle.model.specs.Good.{maxEvents}
 use Rattle.pair.specs.Pair.{Ready}
 use Rattle.lines.specs.Room.{lineBytes, Room}
-use Rattle.blocks.specs.Rest.{rest, linesLeft, Stands}
+use Rattle.blocks.specs.Rest.{lastLine, rest, linesLeft, Stands}
 use Rattle.blocks.specs.declared.Place.{Place}
 use Rattle.blocks.specs.declared.Written.{Written}
 use Rattle.blocks.specs.declared.Written.the-variants.{Ended, More}
@@ -23,7 +23,7 @@ pub record Goes (owed left : List ℕ) (at : ℕ) (out out′ : List ℕ) (r : �
 
 -- ---- from place to place
 
--- what writing goes by: what a search for witnesses goes by, with a list of no more entries than a line has room for; a place that the report
+-- what writing goes by: what a search for witnesses goes by, with a list of as many entries as a trace may have events; a place that the report
 -- comes to, and room for a line
 pub record Writing (t : Trace) (p : Place) (prev obs rel list area : List ℕ) (at : ℕ) (out : List ℕ) : Type 0 where
   pub ready : Ready t prev obs rel list area
@@ -50,11 +50,17 @@ abbrev pub StandsOf : Trace → Written → Type 0
 StandsOf t (Ended n) = Unit {0}
 StandsOf t (More n p) = Stands t p
 
+-- where the report has ended, there was room for any line where its last line was put
+abbrev pub RoomyOf : Trace → List ℕ → Written → Type 0
+RoomyOf t out (Ended n) = n + lineBytes ≤ length out + length (lastLine t)
+RoomyOf t out (More n p) = Unit {0}
+
 -- at least one line was written; the work area is as it was, and the list as long
 pub record Writes (t : Trace) (p : Place) (list list′ area area′ : List ℕ) (at : ℕ) (out out′ : List ℕ) (w : Written) : Type 0 where
   pub goes : Goes (rest t p) (restOf t w) at out out′ (bytesOf w)
   pub fewer : linesOf t w < linesLeft t p
   pub stands : StandsOf t w
+  pub roomy : RoomyOf t out w
   pub area-same : area′ ≡ area
   pub list-long : length list′ ≡ length list
 

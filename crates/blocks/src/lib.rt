@@ -101,9 +101,7 @@ pub fn block(
             out,
             bytes,
         ) {
-            Written::Ended(n) => {
-                return Written::Ended(n);
-            }
+            Written::Ended(n) => return Written::Ended(n),
             Written::More(n, next) => {
                 if out.len() - n < LINE_BYTES {
                     return Written::More(n, next);

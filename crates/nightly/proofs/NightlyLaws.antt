@@ -32,8 +32,8 @@ input-within r file w n e = rw e at w
 -- ---- the first line
 
 -- a block has room for more
-pub block-starting : {s prev obs rel out out′ : List ℕ} (b : Begun) → Begins s prev obs rel out out′ b → (n : ℕ) (t : Span) → b ≡ GoodWith n t
-    → (ev : List ℕ) → ev ≡ eventPart eventBytes s → length out′ ≡ 65536 → Starting (trace ev) prev obs rel n out′
+pub block-starting : {s prev prev′ obs obs′ rel rel′ out out′ : List ℕ} (b : Begun) → Begins s prev prev′ obs obs′ rel rel′ out out′ b → (n : ℕ) (t : Span) → b ≡ GoodWith n t
+    → (ev : List ℕ) → ev ≡ eventPart eventBytes s → length out′ ≡ 65536 → Starting (trace ev) prev′ obs′ rel′ n out′
 block-starting b x n t e ev part l = long-starting b x n t e ev part (omega arith)
 
 -- ---- block after block

@@ -5,7 +5,7 @@ use lib.ListN.{length}
 use Rattle.nightly.specs.declared.Input.{Input}
 use Rattle.nightly.specs.declared.Input.the-variants.{Failed, Bytes}
 
--- the bytes that were read stand in the front of a buffer
+-- no more bytes were read than the buffer has; nothing is said of what they are
 unfoldable pub Within : Input → List ℕ → Type 0
 Within Failed s = Unit {0}
 Within (Bytes n) s = n ≤ length s

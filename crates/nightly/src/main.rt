@@ -59,30 +59,20 @@ fn put(out: &[u8], n: usize) -> bool
 // The rest of a good file's report, block by block.
 fn write_blocks(
     ev: &[u8],
-    previous: &[u16],
-    observed: &[u16],
-    released: &[u16],
+    prev: &[u16],
+    obs: &[u16],
+    rel: &[u16],
     list: &mut [u16],
     area: &mut [u8],
     out: &mut [u8],
     at: usize,
 )
-    requires { ⌜ Writing (trace (now ev)) start (now previous) (now observed) (now released) (now list) (now area) at (now out) ⌝ }
+    requires { ⌜ Writing (trace (now ev)) start (now prev) (now obs) (now rel) (now list) (now area) at (now out) ⌝ }
 {
     let mut place = Place::start();
     let mut bytes = at;
     loop {
-        match blocks::block(
-            ev,
-            previous,
-            observed,
-            released,
-            place,
-            list,
-            area,
-            out,
-            bytes,
-        ) {
+        match blocks::block(ev, prev, obs, rel, place, list, area, out, bytes) {
             Written::Ended(n) => {
                 put(out, n);
                 return;

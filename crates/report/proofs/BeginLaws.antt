@@ -1,7 +1,7 @@
 -- The ways through `begin`, and what its callers learn.
 use Prim.Native.Nat.{ℕ, _+_, _≤_}
 use native.Mathlib.Omega.{arith}
-use mathlib.Core.Path.{_≡_}
+use mathlib.Core.Path.{_≡_, refl}
 use mathlib.Core.List.{List, [], append-nil}
 use lib.ListN.{length, length-append}
 use mir.Val.{Fits}
@@ -33,9 +33,11 @@ use Rattle.blocks.proofs.WritingLaws.{line-goes}
 
 module _ (s : List ℕ) (f : File) (is : f ≡ fileOf s (fileRefusal eventBytes s)) where
   pub refused-begun : (r : Refusal) → f ≡ FileRefused r → {out out′ : List ℕ} {n : ℕ} → Appends (refusedLine r) 0 out out′ n
-      → (prev obs rel : List ℕ) → Begins s prev obs rel out out′ (Refused n)
+      → (prev obs rel : List ℕ) → Begins s prev prev obs obs rel rel out out′ (Refused n)
   unfolding report
-  refused-begun r e a prev obs rel = begins-refused (line-goes a (report s) [] (rw (judged-refused s f is r e, append-nil)))
+  refused-begun r e a prev obs rel =
+      let q = judged-refused s f is r e in
+      begins-refused r q (line-goes a (report s) [] (rw (q, append-nil))) refl refl refl
 
   module _ (t : Span) (e : f ≡ FileGood t) where
     module _ (ev : List ℕ) (part : ev ≡ eventPart eventBytes s) where
@@ -55,11 +57,13 @@ module _ (s : List ℕ) (f : File) (is : f ≡ fileOf s (fileRefusal eventBytes 
           omega arith
 
       pub good-begun : {prev obs rel : List ℕ} → Linked (trace ev) prev obs rel → (m : ℕ) → Fits w32 m → m ≡ length (threads (trace ev))
-          → {out out′ : List ℕ} {n : ℕ} → Appends (eventsLine (t .events) m) 0 out out′ n → Begins s prev obs rel out out′ (GoodWith n t)
+          → {out out′ : List ℕ} {n : ℕ} → Appends (eventsLine (t .events) m) 0 out out′ n
+          → (prev₀ obs₀ rel₀ : List ℕ) → Begins s prev₀ prev obs₀ obs rel₀ rel out out′ (GoodWith n t)
       unfolding report
-      good-begun l m b c a =
+      good-begun l m b c a prev₀ obs₀ rel₀ =
+          let k = judged-clean s f is t e in
           let g = judged-good s f is t e .good in
           let p = part-trace s ev part in
           let q : m ≡ length (threads (events eventBytes s)) = rw p at c in
-          begins-good (line-short m b a) (line-goes a (report s) (rest (events eventBytes s) start) (rw (judged-clean s f is t e, judged-number s f is t e, q, start-rest (events eventBytes s) (g .well-formed))))
+          begins-good k (line-short m b a) (line-goes a (report s) (rest (events eventBytes s) start) (rw (k, judged-number s f is t e, q, start-rest (events eventBytes s) (g .well-formed))))
           (judged-placed s f is t e) (record { good = g; links = rw p at l })

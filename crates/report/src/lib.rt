@@ -5,7 +5,6 @@ use blocks::Written;
 use format::File;
 use limits::Trace;
 ghost use Rattle.format.specs.Bytes.{trace};
-ghost use Rattle.blocks.specs.Rest.{rest, start};
 ghost use Rattle.report.specs.Whole.{Beginning, Begins, Starting, Finishes, Reports};
 
 // After the first line: the bytes in use; the whole report of a refused file, or where the events of a good one stand.
@@ -23,7 +22,7 @@ pub fn begin(
     out: &mut [u8],
 ) -> Begun
     requires { ⌜ Beginning (now previous) (now observed) (now released) (now out) ⌝ }
-    ensures { λ r. ⌜ Begins (now (file .entry)) (now (previous .exit)) (now (observed .exit)) (now (released .exit)) (now (out .entry)) (now (out .exit)) r ⌝ }
+    ensures { λ r. ⌜ Begins (now (file .entry)) (now (previous .entry)) (now (previous .exit)) (now (observed .entry)) (now (observed .exit)) (now (released .entry)) (now (released .exit)) (now (out .entry)) (now (out .exit)) r ⌝ }
 {
     match judging::judge(file) {
         File::Refused(r) => Begun::Refused(lines::refused(out, 0, r)),
@@ -47,7 +46,7 @@ fn finish(
     at: usize,
 ) -> usize
     requires { ⌜ Starting (trace (now ev)) (now previous) (now observed) (now released) at (now out) ⌝ }
-    ensures { λ r. ⌜ Finishes (rest (trace (now (ev .entry))) start) at (now (out .entry)) (now (out .exit)) r ⌝ }
+    ensures { λ r. ⌜ Finishes (trace (now (ev .entry))) at (now (out .entry)) (now (out .exit)) r ⌝ }
 {
     let mut list = [0u16; Trace::MAX_EVENTS];
     let mut area = [0u8; Trace::AREA_BYTES];
@@ -67,7 +66,7 @@ fn finish(
     }
 }
 
-// The whole report of a file in the front of a buffer, and its length; 0 where it might not fit.
+// The whole report of a file in the front of a buffer, and its length; 0 where all but its last line and a line's room do not fit.
 #[no_mangle]
 pub extern "C" fn tarungkis_report(file: &[u8], out: &mut [u8]) -> usize
     ensures { λ r. ⌜ Reports (now (file .entry)) (now (out .entry)) (now (out .exit)) r ⌝ }

@@ -6,10 +6,10 @@ use Rattle.nightly.proofs.write_blocks.Statement.{statement}
 use Rattle.nightly.proofs.write_blocks.Tie as tie
 
 abbrev Inv-loop : tie.InvT-loop
-Inv-loop ev previous observed released list₀ area₀ out₀ at place₀ bytes₀ list area out place bytes = Between (trace ev) previous observed released list₀ area₀ out₀ list area out place bytes
+Inv-loop ev prev obs rel list₀ area₀ out₀ at place₀ bytes₀ list area out place bytes = Between (trace ev) prev obs rel list₀ area₀ out₀ list area out place bytes
 
 abbrev μ-loop : tie.MeasureT-loop
-μ-loop ev previous observed released list₀ area₀ out₀ at place₀ bytes₀ list area out place bytes = linesLeft (trace ev) place
+μ-loop ev prev obs rel list₀ area₀ out₀ at place₀ bytes₀ list area out place bytes = linesLeft (trace ev) place
 
 pub write-blocks-spec : {M : Type 1} → statement M
 write-blocks-spec =
