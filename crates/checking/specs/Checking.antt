@@ -11,7 +11,7 @@ use Rattle.judging.specs.Judged.{orElse, unless}
 use Rattle.checking.specs.declared.Check.{Check}
 use Rattle.checking.specs.declared.Check.the-variants.{Refused, Yes, No}
 
--- the first refusal, by the file's refusal f, if there is one, and its events: 1 to 9, then 11
+-- the first refusal, by the file's refusal f, if there is one, and its events: 1 to 4, 13, 5 to 9, then 11
 unfoldable pub checkRefusal : Option Refusal → Trace → ℕ → ℕ → Option Refusal
 checkRefusal f t a b = orElse f (unless (isConflicting t a b) NotConflicting)
 

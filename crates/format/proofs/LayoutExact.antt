@@ -1,4 +1,4 @@
--- Refusals 1 to 4 are given exactly in their cases and order, and none exactly when the file has the layout.
+-- Refusals 1 to 4 and 13 are given exactly in their cases and order, and none exactly when the file has the layout.
 use Prim.Native.Nat.{ℕ, _+_, _-_, _*_}
 use mathlib.Core.Path.{_≡_}
 use mathlib.Core.Logic.{_↔_}
@@ -11,8 +11,10 @@ use borrow.Author.Tests.{eqb-true, eq-eqb, leb-true, le-leb}
 use Rattle.model.specs.Good.{maxEvents}
 use Rattle.model.proofs.Tests.{by-cases, both, true-both, false-test, test-false}
 use Rattle.limits.specs.Limits.{trailerBytes, maxBytes, isFileSize, markFirst, markSecond}
+use Rattle.preambles.specs.Readable.{isReadable}
+use Rattle.preambles.proofs.ReadableExact.{readable-true, true-readable}
 use Rattle.format.specs.Bytes.{byte}
-use Rattle.format.specs.Layout.{distance, count, Sized, Marked, Pointed, LayoutAnswer, bad-size, wrong-mark, too-many, bad-distance, isMarked, isPointed, layoutRefusal}
+use Rattle.format.specs.Layout.{distance, count, preamble, Sized, Marked, Pointed, LayoutAnswer, bad-size, wrong-mark, too-many, bad-distance, unreadable, isMarked, isPointed, layoutRefusal}
 use Rattle.limits.specs.declared.Refusal.{Refusal}
 
 module _ (s : List ℕ) where
@@ -55,7 +57,10 @@ module _ (s : List ℕ) where
         by-cases (leb (count s) maxEvents)
         (λ c.
         by-cases (isPointed z s)
-        (λ d. rw (a, b, c, d) (record { sized = sized-true a; marked = marked-true b; few = leb-true (count s) maxEvents c; pointed = pointed-true d }))
+        (λ d.
+        by-cases (isReadable (preamble s))
+        (λ e. rw (a, b, c, d, e) (record { sized = sized-true a; marked = marked-true b; few = leb-true (count s) maxEvents c; pointed = pointed-true d; readable = readable-true (preamble s) e }))
+        (λ e. rw (a, b, c, d, e) (unreadable (sized-true a) (marked-true b) (leb-true (count s) maxEvents c) (pointed-true d) (test-false (true-readable (preamble s)) e))))
         (λ d. rw (a, b, c, d) (bad-distance (sized-true a) (marked-true b) (leb-true (count s) maxEvents c) (test-false true-pointed d))))
         (λ c. rw (a, b, c) (too-many (sized-true a) (marked-true b) (test-false (le-leb (count s) maxEvents) c))))
         (λ b. rw (a, b) (wrong-mark (sized-true a) (test-false true-marked b))))
@@ -63,11 +68,12 @@ module _ (s : List ℕ) where
 
     found : (o : Option Refusal) → LayoutAnswer z s o → layoutRefusal z s ≡ o
     unfolding layoutRefusal
-    found none p = rw (true-sized (p .sized), true-marked (p .marked), le-leb (count s) maxEvents (p .few), true-pointed (p .pointed))
+    found none p = rw (true-sized (p .sized), true-marked (p .marked), le-leb (count s) maxEvents (p .few), true-pointed (p .pointed), true-readable (preamble s) (p .readable))
     found (some _) (bad-size n) = rw (false-test sized-true n)
     found (some _) (wrong-mark a n) = rw (true-sized a, false-test marked-true n)
     found (some _) (too-many a b n) = rw (true-sized a, true-marked b, false-test (leb-true (count s) maxEvents) n)
     found (some _) (bad-distance a b c n) = rw (true-sized a, true-marked b, le-leb (count s) maxEvents c, false-test pointed-true n)
+    found (some _) (unreadable a b c d n) = rw (true-sized a, true-marked b, le-leb (count s) maxEvents c, true-pointed d, false-test (readable-true (preamble s)) n)
 
     -- each answer exactly in its case
     pub layout-exactly : (o : Option Refusal) → (layoutRefusal z s ≡ o) ↔ LayoutAnswer z s o

@@ -1,6 +1,6 @@
 -- Events out of bytes
 pub mod EventLaws
--- Refusals 1 to 4, and the parts of a file
+-- Refusals 1 to 4 and 13, and the parts of a file
 pub mod LayoutExact
 pub mod PartLaws
 -- The ways through `read`

@@ -1,20 +1,23 @@
--- The ways through `read`, `read_trailer` and `marked`, each with the tests that led there.
+-- The ways through `read`, `read_trailer`, `read_distance` and `marked`, each with the tests that led there.
 use Prim.Native.Nat.{ℕ, _+_, _-_, _*_, _≤_, _<_}
 use native.Mathlib.Omega.{arith}
 use mathlib.Core.Path.{_≡_, ap, sym, _∙_}
 use mathlib.Core.Bool.{Bool, true, false, not}
 use mathlib.Core.Option.{none, some}
 use mathlib.Core.List.{List}
-use lib.ListN.{length}
+use lib.ListN.{length, take}
+use lib.Seq.{length-take-le}
 use lib.Dec.{leb, eqb}
 use borrow.Author.Tests.{leb-true, leb-false, not-true, not-false, eq-eqb, ne-eqb}
 use Rattle.model.proofs.Tests.{test-false}
 use Rattle.model.specs.Good.{maxEvents}
 use Rattle.limits.specs.Limits.{eventBytes, trailerBytes, isFileSize, markFirst, markSecond}
+use Rattle.preambles.specs.Readable.{isReadable}
+use Rattle.preambles.proofs.ReadableExact.{readable-true, true-readable}
 use Rattle.format.specs.Bytes.{byte, number16, number32}
-use Rattle.format.specs.Layout.{distance, count, start, Sized, Marked, Pointed, LayoutRefusal, bad-size, wrong-mark, too-many, bad-distance, isMarked, layoutRefusal, fileOf}
+use Rattle.format.specs.Layout.{distance, count, start, preamble, Sized, Counted, Marked, Pointed, LayoutRefusal, bad-size, wrong-mark, too-many, bad-distance, unreadable, isMarked, layoutRefusal, fileOf}
 use Rattle.limits.specs.declared.Refusal.{Refusal}
-use Rattle.limits.specs.declared.Refusal.the-variants.{FileSize, Mark, EventCount, Distance}
+use Rattle.limits.specs.declared.Refusal.the-variants.{FileSize, Mark, EventCount, Distance, Preamble}
 use Rattle.format.specs.declared.File.the-variants.{Refused, Good}
 use Rattle.format.proofs.LayoutExact.{sized-true, true-sized, marked-true, true-marked, layout-exactly}
 
@@ -34,33 +37,60 @@ module _ (s : List ℕ) where
       pub mark-wrong : not a ≡ true → Refused Mark ≡ fileOf s (layoutRefusal eventBytes s)
       mark-wrong h = refused (wrong-mark sized (test-false (true-marked s) (sym ea ∙ not-true a h)))
 
-      module _ (right : not a ≡ false) (n : ℕ) (en : n ≡ number16 s (length s - 4)) where
+      module _ (right : not a ≡ false) (n : ℕ) (en : n ≡ number16 s (length s - 4)) (b : Bool) (eb : b ≡ leb n maxEvents) where
         marked : Marked s
         marked = marked-true s (sym ea ∙ not-false a right)
 
-        module _ (b : Bool) (eb : b ≡ leb n maxEvents) where
-          pub count-high : not b ≡ true → Refused EventCount ≡ fileOf s (layoutRefusal eventBytes s)
-          unfolding count
-          count-high h = let m = leb-false n maxEvents (sym eb ∙ not-true b h) in refused (too-many sized marked (λ p. omega arith))
+        pub count-high : not b ≡ true → Refused EventCount ≡ fileOf s (layoutRefusal eventBytes s)
+        unfolding count
+        count-high h = let m = leb-false n maxEvents (sym eb ∙ not-true b h) in refused (too-many sized marked (λ p. omega arith))
 
-          module _ (ok : not b ≡ false) (d : ℕ) (ed : d ≡ number32 s (length s - trailerBytes)) where
-            few : n ≤ maxEvents
-            few = leb-true n maxEvents (sym eb ∙ not-false b ok)
+        pub counted : not b ≡ false → Counted s n
+        unfolding count
+        counted h = record { sized = sized; marked = marked; number = en; few = leb-true n maxEvents (sym eb ∙ not-false b h) }
 
-            pub distance-other : (d ≡ trailerBytes + eventBytes * n → ⊥) → Refused Distance ≡ fileOf s (layoutRefusal eventBytes s)
-            unfolding count distance
-            distance-other x = refused (bad-distance sized marked (let f = few in omega arith) (λ p. let y = p .back in x (omega arith)))
+  -- refusals 4 and 13
+  module _ {n : ℕ} (c : Counted s n) (d : ℕ) (ed : d ≡ number32 s (length s - trailerBytes)) where
+    few : count s ≤ maxEvents
+    few = let e = c .number in let f = c .few in omega arith
 
-            pub distance-beyond : length s < d → Refused Distance ≡ fileOf s (layoutRefusal eventBytes s)
-            unfolding count distance
-            distance-beyond x = refused (bad-distance sized marked (let f = few in omega arith) (λ p. let w = p .within in omega arith))
+    far : (Pointed eventBytes s → ⊥) → Refused Distance ≡ fileOf s (layoutRefusal eventBytes s)
+    far x = refused (bad-distance (c .sized) (c .marked) few x)
 
-            pub good : d ≡ trailerBytes + eventBytes * n → d ≤ length s → Good (record { start = length s - d; events = n }) ≡ fileOf s (layoutRefusal eventBytes s)
-            unfolding count distance start
-            good is within =
-                let p : Pointed eventBytes s = record { back = omega arith; within = omega arith } in
-                let o = layout-exactly s eventBytes none .1 (record { sized = sized; marked = marked; few = let f = few in omega arith; pointed = p }) in
-                rw o (let e : length s - d ≡ start s = omega arith in rw (e, en))
+    pub distance-beyond : length s < d → Refused Distance ≡ fileOf s (layoutRefusal eventBytes s)
+    unfolding distance
+    distance-beyond x = far (λ p. let w = p .within in omega arith)
+
+    module _ (within : d ≤ length s) where
+      pub preamble-count : length s - d ≡ length (take (length s - d) s)
+      preamble-count = sym (length-take-le (length s - d) s (omega arith))
+
+      pub distance-other : (d ≡ trailerBytes + eventBytes * n → ⊥) → Refused Distance ≡ fileOf s (layoutRefusal eventBytes s)
+      unfolding distance
+      distance-other x = far (λ p. let y = p .back in let e = c .number in x (omega arith))
+
+      module _ (is : d ≡ trailerBytes + eventBytes * n) where
+        pointed : Pointed eventBytes s
+        unfolding distance
+        pointed = let e = c .number in record { back = omega arith; within = omega arith }
+
+        starts : length s - d ≡ start s
+        unfolding start distance
+        starts = omega arith
+
+        module _ (b : Bool) (eb : b ≡ isReadable (take (length s - d) s)) where
+          tested : b ≡ isReadable (preamble s)
+          unfolding preamble
+          tested = eb ∙ ap (λ (m : ℕ). isReadable (take m s)) starts
+
+          pub preamble-wrong : not b ≡ true → Refused Preamble ≡ fileOf s (layoutRefusal eventBytes s)
+          preamble-wrong h = refused (unreadable (c .sized) (c .marked) few pointed (test-false (true-readable (preamble s)) (sym tested ∙ not-true b h)))
+
+          pub good : not b ≡ false → Good (record { start = length s - d; events = n }) ≡ fileOf s (layoutRefusal eventBytes s)
+          good h =
+              let r = readable-true (preamble s) (sym tested ∙ not-false b h) in
+              let o = layout-exactly s eventBytes none .1 (record { sized = c .sized; marked = c .marked; few = few; pointed = pointed; readable = r }) in
+              rw (o, starts, c .number)
 
 module _ (s : List ℕ) where
   pub first-wrong : (byte s (length s - 2) ≡ markFirst → ⊥) → false ≡ isMarked s

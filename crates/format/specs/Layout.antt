@@ -1,4 +1,4 @@
--- A file: preamble, events of z bytes each, trailer. Refusals 1 to 4.
+-- A file: preamble, events of z bytes each, trailer. Refusals 1 to 4 and 13.
 use Prim.Native.Nat.{ℕ, _+_, _-_, _*_, _≤_}
 use mathlib.Core.Path.{_≡_}
 use mathlib.Core.Bool.{Bool, cond, _&&_, not}
@@ -9,9 +9,10 @@ use lib.Dec.{eqb, leb}
 use Rattle.model.specs.Trace.{Trace, Valid, at}
 use Rattle.model.specs.Good.{maxEvents}
 use Rattle.limits.specs.Limits.{eventBytes, trailerBytes, maxBytes, isFileSize, markFirst, markSecond}
+use Rattle.preambles.specs.Readable.{Readable, isReadable}
 use Rattle.format.specs.Bytes.{byte, number16, number32, eventAt, traceOf}
 use Rattle.limits.specs.declared.Refusal.{Refusal}
-use Rattle.limits.specs.declared.Refusal.the-variants.{FileSize, Mark, EventCount, Distance}
+use Rattle.limits.specs.declared.Refusal.the-variants.{FileSize, Mark, EventCount, Distance, Preamble}
 use Rattle.limits.specs.declared.Trace.{Trace as Span}
 use Rattle.format.specs.declared.File.{File}
 use Rattle.format.specs.declared.File.the-variants.{Refused, Good}
@@ -44,7 +45,7 @@ events z s = traceOf z (eventPart z s)
 unfoldable pub trailer : List ℕ → List ℕ
 trailer s = drop (length s - trailerBytes) s
 
--- ---- what refusals 1 to 4 ask
+-- ---- what refusals 1 to 4 and 13 ask
 
 -- refusal 1: 8 to 4,096 bytes
 pub record Sized (s : List ℕ) : Type 0 where
@@ -61,12 +62,13 @@ pub record Pointed (z : ℕ) (s : List ℕ) : Type 0 where
   pub back : distance s ≡ trailerBytes + z * count s
   pub within : distance s ≤ length s
 
--- a file with the layout of the paper
+-- a file with the layout of the paper; refusal 13 asks for a readable preamble
 pub record Layout (z : ℕ) (s : List ℕ) : Type 0 where
   pub sized : Sized s
   pub marked : Marked s
   pub few : count s ≤ maxEvents
   pub pointed : Pointed z s
+  pub readable : Readable (preamble s)
 
 -- a file that is refused for its layout: each refusal only where those before it have no case
 pub data LayoutRefusal (z : ℕ) (s : List ℕ) : Refusal → Type 0 where
@@ -74,6 +76,7 @@ pub data LayoutRefusal (z : ℕ) (s : List ℕ) : Refusal → Type 0 where
   wrong-mark : Sized s → ¬ Marked s → LayoutRefusal z s Mark
   too-many : Sized s → Marked s → ¬ (count s ≤ maxEvents) → LayoutRefusal z s EventCount
   bad-distance : Sized s → Marked s → count s ≤ maxEvents → ¬ Pointed z s → LayoutRefusal z s Distance
+  unreadable : Sized s → Marked s → count s ≤ maxEvents → Pointed z s → ¬ Readable (preamble s) → LayoutRefusal z s Preamble
 
 -- what a file with the layout is made of, and where each event stands in it
 pub record Parts (z : ℕ) (s : List ℕ) : Type 0 where
@@ -102,7 +105,8 @@ layoutRefusal z s =
     cond (not (isFileSize (length s))) (some FileSize)
     (cond (not (isMarked s)) (some Mark)
     (cond (not (leb (count s) maxEvents)) (some EventCount)
-    (cond (not (isPointed z s)) (some Distance) none)))
+    (cond (not (isPointed z s)) (some Distance)
+    (cond (not (isReadable (preamble s))) (some Preamble) none))))
 
 -- where a file's events stand, and how many they are
 abbrev pub spanOf : List ℕ → Span
@@ -112,6 +116,13 @@ spanOf s = record { start = start s; events = count s }
 abbrev pub fileOf : List ℕ → Option Refusal → File
 fileOf s none = Good (spanOf s)
 fileOf s (some r) = Refused r
+
+-- what `read_distance` asks: refusals 1 to 3 have no case, and the trailer counts n events
+pub record Counted (s : List ℕ) (n : ℕ) : Type 0 where
+  pub sized : Sized s
+  pub marked : Marked s
+  pub number : n ≡ count s
+  pub few : n ≤ maxEvents
 
 -- a file with the layout, and t says where its events stand
 pub record Placed (s : List ℕ) (t : Span) : Type 0 where

@@ -9,7 +9,7 @@ ghost use lib.ListN.{length};
 ghost use Rattle.model.specs.Trace.{Valid, at, threadOf, kindOf, objectOf, does};
 ghost use Rattle.limits.specs.Limits.{eventBytes};
 ghost use Rattle.format.specs.Bytes.{number16, number32, trace, plain};
-ghost use Rattle.format.specs.Layout.{Sized, isMarked, layoutRefusal, fileOf, Placed, eventPart};
+ghost use Rattle.format.specs.Layout.{Sized, Counted, isMarked, layoutRefusal, fileOf, Placed, eventPart};
 
 // What reading a file gives.
 pub enum File {
@@ -51,7 +51,27 @@ fn marked(file: &[u8]) -> bool
     file[len - 1] == Trace::MARK_SECOND
 }
 
-// Refusals 2 to 4, in their order.
+// Refusals 4 and 13, in their order, where the trailer counts so many events.
+fn read_distance(file: &[u8], events: usize) -> File
+    requires { ⌜ Counted (now file) events ⌝ }
+    ensures { λ r. ⌜ r ≡ fileOf (now (file .entry)) (layoutRefusal eventBytes (now (file .entry))) ⌝ }
+{
+    let len = file.len();
+    let distance = read32(file, len - Trace::TRAILER_BYTES);
+    if len < distance {
+        return File::Refused(Refusal::Distance);
+    }
+    if distance != Trace::TRAILER_BYTES + Event::BYTES * events {
+        return File::Refused(Refusal::Distance);
+    }
+    let start = len - distance;
+    if !preambles::readable(&file[..start]) {
+        return File::Refused(Refusal::Preamble);
+    }
+    File::Good(Trace { start, events })
+}
+
+// Refusals 2 to 4 and 13, in their order.
 fn read_trailer(file: &[u8]) -> File
     requires { ⌜ Sized (now file) ⌝ }
     ensures { λ r. ⌜ r ≡ fileOf (now (file .entry)) (layoutRefusal eventBytes (now (file .entry))) ⌝ }
@@ -59,25 +79,14 @@ fn read_trailer(file: &[u8]) -> File
     if !marked(file) {
         return File::Refused(Refusal::Mark);
     }
-    let len = file.len();
-    let events = read16(file, len - 4);
+    let events = read16(file, file.len() - 4);
     if !Trace::events_in_limit(events) {
         return File::Refused(Refusal::EventCount);
     }
-    let distance = read32(file, len - Trace::TRAILER_BYTES);
-    if distance != Trace::TRAILER_BYTES + Event::BYTES * events {
-        return File::Refused(Refusal::Distance);
-    }
-    if len < distance {
-        return File::Refused(Refusal::Distance);
-    }
-    File::Good(Trace {
-        start: len - distance,
-        events,
-    })
+    read_distance(file, events)
 }
 
-// Refusals 1 to 4, in their order.
+// Refusals 1 to 4 and 13, in their order.
 pub fn read(file: &[u8]) -> File
     ensures { λ r. ⌜ r ≡ fileOf (now (file .entry)) (layoutRefusal eventBytes (now (file .entry))) ⌝ }
 {

@@ -15,7 +15,7 @@ use Rattle.format.specs.Layout.{Layout, layoutRefusal, events}
 use Rattle.format.proofs.LayoutExact.{layout-exactly}
 use Rattle.format.proofs.PartLaws.{number-of-events}
 use Rattle.limits.specs.declared.Refusal.{Refusal}
-use Rattle.limits.specs.declared.Refusal.the-variants.{FileSize, Mark, EventCount, Distance, Kind, Thread, Object, LockHeld, NotHolder, ListShort, NotConflicting, AreaShort}
+use Rattle.limits.specs.declared.Refusal.the-variants.{FileSize, Mark, EventCount, Distance, Kind, Thread, Object, LockHeld, NotHolder, ListShort, NotConflicting, AreaShort, Preamble}
 use Rattle.limits.specs.declared.EventNumber.the-variants.{At}
 use Rattle.judging.specs.Judged.{by-layout, by-event, FileAnswer, refusalAt, named, orElse, fileRefusal}
 
@@ -52,6 +52,7 @@ only-right (NotHolder j) n k e f = rw (← e) cc
 only-right ListShort n k e f = let z : _≡_ {A = ℕ} 0 1 = cc in absurd (omega arith)
 only-right NotConflicting n k e f = let z : _≡_ {A = ℕ} 0 1 = cc in absurd (omega arith)
 only-right AreaShort n k e f = let z : _≡_ {A = ℕ} 0 1 = cc in absurd (omega arith)
+only-right Preamble n k e f = let z : _≡_ {A = ℕ} 0 1 = cc in absurd (omega arith)
 
 -- ---- files
 

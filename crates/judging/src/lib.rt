@@ -1,4 +1,4 @@
-// Judging a file: refusals 1 to 9 in their order.
+// Judging a file: refusals 1 to 4, 13 and 5 to 9, in this order.
 use format::File;
 use limits::Event;
 use limits::Refusal;
@@ -96,7 +96,7 @@ fn judge_events(file: &[u8], t: Trace) -> File
     File::Good(t)
 }
 
-// Refusals 1 to 9: what every question asks of a file first.
+// Refusals 1 to 4, 13 and 5 to 9: what every question asks of a file first.
 pub fn judge(file: &[u8]) -> File
     ensures { λ r. ⌜ r ≡ fileOf (now (file .entry)) (fileRefusal eventBytes (now (file .entry))) ⌝ }
 {

@@ -1,7 +1,7 @@
 -- The refusals: each has the paper's number, and some have an event number.
 use Prim.Native.Nat.{ℕ}
 use Rattle.limits.specs.declared.Refusal.{Refusal}
-use Rattle.limits.specs.declared.Refusal.the-variants.{FileSize, Mark, EventCount, Distance, Kind, Thread, Object, LockHeld, NotHolder, ListShort, NotConflicting, AreaShort}
+use Rattle.limits.specs.declared.Refusal.the-variants.{FileSize, Mark, EventCount, Distance, Kind, Thread, Object, LockHeld, NotHolder, ListShort, NotConflicting, AreaShort, Preamble}
 use Rattle.limits.specs.declared.EventNumber.{EventNumber}
 use Rattle.limits.specs.declared.EventNumber.the-variants.{Absent, At}
 
@@ -19,6 +19,7 @@ numberOf (NotHolder k) = 9
 numberOf ListShort = 10
 numberOf NotConflicting = 11
 numberOf AreaShort = 12
+numberOf Preamble = 13
 
 -- the event number that goes with it
 abbrev pub eventOf : Refusal → EventNumber
@@ -34,3 +35,4 @@ eventOf (NotHolder k) = At k
 eventOf ListShort = Absent
 eventOf NotConflicting = Absent
 eventOf AreaShort = Absent
+eventOf Preamble = Absent

@@ -126,6 +126,7 @@ pub enum Refusal {
     ListShort,
     NotConflicting,
     AreaShort,
+    Preamble,
 }
 
 // The event number that goes with a refusal, where one does.
@@ -152,6 +153,7 @@ impl Refusal {
             Refusal::ListShort => 10,
             Refusal::NotConflicting => 11,
             Refusal::AreaShort => 12,
+            Refusal::Preamble => 13,
         }
     }
 
@@ -172,6 +174,7 @@ impl Refusal {
             Refusal::ListShort => EventNumber::Absent,
             Refusal::NotConflicting => EventNumber::Absent,
             Refusal::AreaShort => EventNumber::Absent,
+            Refusal::Preamble => EventNumber::Absent,
         }
     }
 }

@@ -38,7 +38,7 @@ pub record VerdictAsked (s : List ℕ) (a b : ℕ) (list area : List ℕ) : Type
   pub list-long : length (eventsOf s) ≤ length list
   pub area-long : areaBytes ≤ length area
 
--- it is refused: 1 to 9, then 11, 10, 12
+-- it is refused: 1 to 4, 13, 5 to 9, then 11, 10, 12
 pub data VerdictRefusal (s : List ℕ) (a b : ℕ) (list area : List ℕ) : Refusal → Type 0 where
   by-file : {r : Refusal} → FileRefusal eventBytes s r → VerdictRefusal s a b list area r
   not-conflicting : GoodFile eventBytes s → ¬ Conflicting (eventsOf s) a b → VerdictRefusal s a b list area NotConflicting

@@ -18,7 +18,7 @@ use Rattle.verdicts.specs.declared.Finding.the-variants.{Refused, Report
 unfoldable pub cleared : List ℕ → List ℕ
 cleared area = replicate areaBytes 0 ++ drop areaBytes area
 
--- the first refusal, by the file's refusal f, if there is one, and its events: 1 to 9, then 11, 10, 12
+-- the first refusal, by the file's refusal f, if there is one, and its events: 1 to 4, 13, 5 to 9, then 11, 10, 12
 unfoldable pub verdictRefusal : Option Refusal → Trace → ℕ → ℕ → List ℕ → List ℕ → Option Refusal
 verdictRefusal f t a b list area =
     orElse f

@@ -1,4 +1,4 @@
-use Rattle.format.proofs.ReadLaws.{mark-wrong, count-high, distance-other, distance-beyond, good}
+use Rattle.format.proofs.ReadLaws.{mark-wrong, count-high, counted}
 use borrow.Author.Needs.{needs}
 use Rattle.format.proofs.read_trailer.Statement.{statement}
 use Rattle.format.proofs.read_trailer.Tie as tie
@@ -13,10 +13,5 @@ read-trailer-spec =
     (λ c κs. search needs)
     (λ c κs. search needs)
     (λ c. search (count-high, needs))
-    (λ c. search needs)
-    (λ c κs. search needs)
-    (λ c. search needs)
-    (λ c. search needs)
-    (λ c. search (distance-other, needs))
-    (λ c. search (distance-beyond, needs))
-    (λ c. search (good, needs)))
+    (λ c κs. search (counted, needs))
+    (λ c. search needs))

@@ -1,0 +1,2 @@
+-- Which bytes a preamble may hold.
+pub mod Readable
