@@ -11,8 +11,9 @@ use Rattle.model.specs.Refusals.{eventRefusal, refusalIn, refusal}
 use Rattle.model.specs.Rounds.{brought, rounds, isEarlier, isRooted, isObserved, isExempt, isClosing, brings, cone}
 use Rattle.model.specs.Grid.{sawOther, sawNone, readStep, writeStep, lockStep, mayStep, stepAt, path}
 use Rattle.model.specs.Decision.{shownFor, isAccess, isConflicting, raceOn, races}
+use Rattle.preambles.specs.Readable.{isReadable}
 use Rattle.format.specs.Bytes.{eventsFrom, traceOf}
-use Rattle.format.specs.Layout.{distance, count, start, eventPart, events, isMarked, isPointed, layoutRefusal}
+use Rattle.format.specs.Layout.{distance, count, start, preamble, eventPart, events, isMarked, isPointed, layoutRefusal}
 use Rattle.judging.specs.Judged.{fileRefusal}
 use Rattle.appending.specs.Decimal.{decimal}
 use Rattle.lines.specs.Lines.{eventsLine, raceHead, raceLine, racesLine}
@@ -30,6 +31,6 @@ pub report-of-q : report qBytes ≡ eventsLine 8 2 ++ (raceLine 1 8 (5 ∷ 6 ∷
 unfolding does listed is but threads observed givesBack matching isValid isFree eventRefusal refusalIn refusal
     brought rounds isEarlier isRooted isObserved isExempt isClosing brings cone sawOther sawNone readStep writeStep lockStep mayStep stepAt path
     shownFor isAccess isConflicting raceOn races
-    eventsFrom traceOf distance count start eventPart events isMarked isPointed layoutRefusal fileRefusal
+    eventsFrom traceOf distance count start preamble isReadable eventPart events isMarked isPointed layoutRefusal fileRefusal
     decimal eventsLine raceHead raceLine racesLine report
 report-of-q = refl

@@ -1,0 +1,15 @@
+use Rattle.layout.proofs.PutLaws.{put-two}
+use borrow.Author.Needs.{needs}
+use Rattle.layout.proofs.put16.Statement.{statement}
+use Rattle.layout.proofs.put16.Tie as tie
+
+pub put16-spec : {M : Type 1} → statement M
+put16-spec =
+    tie.close
+    (tie.spec
+    (λ c. search needs)
+    (λ c κs. search needs)
+    (λ c. search needs)
+    (λ c κs. search needs)
+    (λ c. search needs)
+    (λ c. search (put-two, needs)))

@@ -1,0 +1,9 @@
+use Rattle.layout.proofs.PutLaws.{put-four}
+use borrow.Author.Needs.{needs}
+use Rattle.layout.proofs.put32.Statement.{statement}
+use Rattle.layout.proofs.put32.Tie as tie
+
+pub put32-spec : {M : Type 1} → statement M
+put32-spec =
+    tie.close
+    (tie.spec (λ c. search needs) (λ c κs. search needs) (λ c. search needs) (λ c κs. search needs) (λ c. search needs) (λ c. search (put-four, needs)))

@@ -1,0 +1,2 @@
+-- The bytes of a file: what reading takes apart, put together.
+pub mod Written

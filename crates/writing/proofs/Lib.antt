@@ -1,0 +1,2 @@
+-- The ways through the code
+pub mod WriteLaws

@@ -1,0 +1,2 @@
+-- The writer's answer, and the buffer after it.
+pub mod Writing
