@@ -1,7 +1,7 @@
 //! The vectors' two texts: each line asked, and the line that answers it.
 
 use crate::questions::{Asked, Verdict, AREA};
-use crate::recording::{Event, Refusal};
+use crate::recording::{made_readable, Event, Refusal};
 use crate::rules::{fits_after, Seen};
 use crate::study::{Pair, Study};
 use std::collections::BTreeMap;
@@ -66,6 +66,15 @@ impl Book {
         self.line(&hex_words(bytes), &answer);
         self.count(format!("recordings of {}", self.group));
         self.count_verdicts();
+    }
+
+    /// Takes a recording; where its preamble is refused, then also the same one with a readable
+    /// preamble, so that whatever else it tests is tested.
+    pub fn recording_and_readable(&mut self, bytes: &[u8]) {
+        self.recording(bytes);
+        if self.asked.judged.as_ref().err() == Some(&Refusal::plain(13)) {
+            self.recording(&made_readable(bytes));
+        }
     }
 
     fn count_verdicts(&mut self) {

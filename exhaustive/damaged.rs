@@ -1,7 +1,9 @@
-//! Group 5: damaged files, each refusal 1 to 9 at each of its edges, and two damages at once.
+//! Group 5: damaged files, each refusal 1 to 9 and 13 at each of its edges, and two damages at
+//! once.
 
 use crate::book::Book;
 use crate::chance::Chance;
+use crate::preambles;
 use crate::questions::AREA;
 use crate::random::random_events;
 use crate::recording::{acq, event_bytes, file, r, rel, told, trailer, w, Event};
@@ -10,14 +12,14 @@ use crate::worked::{Q, R};
 
 /// A file in parts, each of which may be wrong.
 #[derive(Clone)]
-struct Raw {
-    preamble: Vec<u8>,
-    events: Vec<[u8; 4]>,
+pub struct Raw {
+    pub preamble: Vec<u8>,
+    pub events: Vec<[u8; 4]>,
     trailer: [u8; 8],
 }
 
 impl Raw {
-    fn new(preamble: &[u8], events: &[Event]) -> Raw {
+    pub fn new(preamble: &[u8], events: &[Event]) -> Raw {
         let n = events.len();
         Raw {
             preamble: preamble.to_vec(),
@@ -45,6 +47,7 @@ pub fn write(book: &mut Book) {
     marks(book);
     counts(book);
     distances(book);
+    preambles::write(book);
     fields(book);
     locks(book);
     two_at_once(book);
@@ -77,7 +80,7 @@ fn sizes(book: &mut Book) {
 }
 
 /// The questions asked of a refused file all give its refusal.
-fn ask_of_refused(book: &mut Book) {
+pub fn ask_of_refused(book: &mut Book) {
     book.ask2(1);
     book.ask3(1, 8, 8, AREA);
     book.ask3(0, 0, 0, 0);
@@ -116,7 +119,9 @@ fn marks(book: &mut Book) {
 }
 
 fn counts(book: &mut Book) {
-    book.title("refusals 3 and 4: the count of events, with and without the distance that fits it");
+    book.title(
+        "refusals 3, 4 and 13: the count of events, with and without the distance that fits it",
+    );
     for n in [0, 1, 2, 8, 256, 512] {
         let there = vec![w(1, 9); n];
         let n = n as u16;
@@ -138,7 +143,8 @@ fn counts(book: &mut Book) {
                 raw.set_count(count);
                 book.recording(&raw.bytes());
                 raw.set_distance(8 + 4 * count as u32);
-                book.recording(&raw.bytes());
+                // a lower count leaves events in the preamble
+                book.recording_and_readable(&raw.bytes());
             }
         }
     }
@@ -221,7 +227,7 @@ fn fields(book: &mut Book) {
 }
 
 /// Locks taken while held or given back by another, and some good ones among them.
-const LOCKS: [&str; 17] = [
+pub const LOCKS: [&str; 17] = [
     "0+0 0+0",
     "0+0 1+0",
     "15+255 14+255",
@@ -270,40 +276,54 @@ fn locks(book: &mut Book) {
     }
 }
 
-type Damage = (&'static str, fn(&mut Raw, usize));
+pub type Damage = (u8, fn(&mut Raw, usize));
 
-/// One damage of each refusal; those of an event are done to the event of the given number.
-fn damages() -> Vec<Damage> {
+/// One damage of each refusal, in the order in which they are judged; those of an event are done
+/// to the event at the given place.
+pub fn damages() -> Vec<Damage> {
     vec![
-        ("1", |raw, _| raw.preamble = vec![0x2E; 4096]),
-        ("2", |raw, _| raw.trailer[7] = 0x4D),
-        ("3", |raw, _| raw.set_count(513)),
-        ("4", |raw, _| raw.trailer[0] ^= 4),
-        ("5", |raw, i| raw.events[i][1] = 5),
-        ("6", |raw, i| raw.events[i][0] = 16),
-        ("7", |raw, i| raw.events[i][3] = 1),
-        ("8", |raw, i| raw.events[i] = [1, 3, 4, 0]),
-        ("9", |raw, i| raw.events[i] = [1, 4, 4, 0]),
+        (1, |raw, _| raw.preamble = vec![0x2E; 4096]),
+        (2, |raw, _| raw.trailer[7] = 0x4D),
+        (3, |raw, _| raw.set_count(513)),
+        (4, |raw, _| raw.trailer[0] ^= 4),
+        (13, |raw, _| raw.preamble.push(0x09)),
+        (5, |raw, i| raw.events[i][1] = 5),
+        (6, |raw, i| raw.events[i][0] = 16),
+        (7, |raw, i| raw.events[i][3] = 1),
+        (8, |raw, i| raw.events[i] = [1, 3, 4, 0]),
+        (9, |raw, i| raw.events[i] = [1, 4, 4, 0]),
     ]
 }
 
 fn two_at_once(book: &mut Book) {
-    book.title("two damages at once: 1, 2, 3, 4, then event by event 5, 6, 7, then 8 or 9");
-    let base = [acq(0, 4), w(0, 0), r(1, 0), w(1, 1), r(0, 1), rel(0, 4)];
-    for (first, one) in damages() {
-        for (second, two) in damages() {
+    book.title("two damages at once: 1, 2, 3, 4, 13, then event by event 5, 6, 7, then 8 or 9");
+    for raw in pairs_of(&damages()) {
+        book.recording(&raw.bytes());
+    }
+}
+
+/// The recording that the damages are done to.
+pub const TO_DAMAGE: &str = "0+4 0w0 1r0 1w1 0r1 0-4";
+
+/// Every two of the damages; where both are done to events, then to the same event, to an earlier
+/// and a later one, and the other way round.
+pub fn pairs_of(damages: &[Damage]) -> Vec<Raw> {
+    let of_event = |number: u8| (5..=9).contains(&number);
+    let mut damaged = Vec::new();
+    for (first, one) in damages {
+        for (second, two) in damages {
             for (i, j) in [(2, 2), (1, 4), (4, 1), (3, 4)] {
-                let of_events = first > "4" && second > "4";
-                if !of_events && (i, j) != (1, 4) {
+                if (i, j) != (1, 4) && !(of_event(*first) && of_event(*second)) {
                     continue;
                 }
-                let mut raw = Raw::new(b"", &base);
+                let mut raw = Raw::new(b"", &told(TO_DAMAGE));
                 two(&mut raw, j);
                 one(&mut raw, i);
-                book.recording(&raw.bytes());
+                damaged.push(raw);
             }
         }
     }
+    damaged
 }
 
 /// Good recordings of groups 3 and 4 with a byte changed, dropped or added.
@@ -320,7 +340,7 @@ fn at_random(book: &mut Book) {
         let preamble = chance.one_of(&[&b""[..], b"", b"note"]);
         let mut bytes = file(preamble, &events);
         spoil(&mut bytes, &mut chance);
-        book.recording(&bytes);
+        book.recording_and_readable(&bytes);
         if chance.percent(10) {
             ask_of_refused(book);
         }

@@ -183,9 +183,9 @@ fn preambles(book: &mut Book) {
         book.ask6(&[0x00]);
         book.ask6(&(0..64).collect::<Vec<u8>>());
     }
-    book.title("a preamble that looks like a recording");
+    book.title("a preamble that is a recording, and one that only ends as a recording does");
     let inner = file(&[], &told(Q));
-    book.recording(&file(&inner, &[w(0, 0), r(1, 0)]));
+    book.recording_and_readable(&file(&inner, &[w(0, 0), r(1, 0)]));
     book.ask6(b"x");
 }
 

@@ -8,6 +8,7 @@ mod damaged;
 mod enumerate;
 mod figures;
 mod limits;
+mod preambles;
 mod questions;
 mod random;
 mod recording;

@@ -50,7 +50,7 @@ pub fn put_longer(book: &mut Book, chance: &mut Chance, turn: usize) {
 pub fn put_one(book: &mut Book, chance: &mut Chance) {
     let events = random_events(chance);
     let preamble = random_preamble(chance);
-    book.recording(&file(&preamble, &events));
+    book.recording_and_readable(&file(&preamble, &events));
     ask_a_few(book, chance, 6);
     book.random.push(events);
 }
@@ -236,7 +236,8 @@ fn rename(stock: &Stock, event: Event) -> Event {
     }
 }
 
-/// Mostly none, now and then a short one, sometimes one that looks like an event or a trailer.
+/// Mostly none, now and then a short one, sometimes one that looks like an event or a trailer and
+/// cannot be read.
 fn random_preamble(chance: &mut Chance) -> Vec<u8> {
     match chance.below(12) {
         0 => b"night 7\n".to_vec(),

@@ -1,5 +1,5 @@
 //! A recording as bytes: how it is laid out and how it is judged
-//! (paper 01, "A recording on the desk" and refusals 1 to 9).
+//! (paper 01, "A recording on the desk" and refusals 1 to 9; request One, refusal 13).
 
 #[derive(Clone, Copy, PartialEq, Eq, Debug)]
 pub enum Kind {
@@ -52,20 +52,49 @@ impl Refusal {
     }
 }
 
-/// Judges a file: refusals 1, 2, 3, 4, then event by event 5, 6, 7, then 8 or 9.
+/// Judges a file: refusals 1, 2, 3, 4, then 13, then event by event 5, 6, 7, then 8 or 9.
 pub fn judge(bytes: &[u8]) -> Result<Recording, Refusal> {
     let first = first_event(bytes)?;
+    let preamble = &bytes[..first];
+    if !readable(preamble) {
+        return Err(Refusal::plain(13));
+    }
+    Ok(Recording {
+        preamble: preamble.to_vec(),
+        events: judge_events(&bytes[first..bytes.len() - 8])?,
+    })
+}
+
+/// Whether a preamble may hold these bytes (request One): only 20 to 7E hex and 0A.
+pub fn readable(preamble: &[u8]) -> bool {
+    preamble
+        .iter()
+        .all(|byte| matches!(byte, 0x20..=0x7E | 0x0A))
+}
+
+/// A file that is refused 13 with each byte that its preamble may not hold made into one that it
+/// may.
+pub fn made_readable(bytes: &[u8]) -> Vec<u8> {
+    let first = first_event(bytes).expect("a file that is not refused 1 to 4");
+    let mut bytes = bytes.to_vec();
+    for byte in &mut bytes[..first] {
+        if !readable(&[*byte]) {
+            *byte = 0x20 + *byte % 95;
+        }
+    }
+    bytes
+}
+
+/// Judges the events one by one: refusals 5, 6, 7, then 8 or 9.
+pub fn judge_events(bytes: &[u8]) -> Result<Vec<Event>, Refusal> {
     let mut events: Vec<Event> = Vec::new();
-    for four in bytes[first..bytes.len() - 8].chunks(4) {
+    for four in bytes.chunks(4) {
         let number = events.len() + 1;
         let event = judge_event(four, number)?;
         judge_lock(&events, event, number)?;
         events.push(event);
     }
-    Ok(Recording {
-        preamble: bytes[..first].to_vec(),
-        events,
-    })
+    Ok(events)
 }
 
 /// Judges size and trailer and gives the place of the first event's first byte.
