@@ -1,9 +1,10 @@
 //! The vectors' two texts: each line asked, and the line that answers it.
 
 use crate::questions::{Asked, Verdict, AREA};
-use crate::recording::{made_readable, Event, Refusal};
+use crate::recording::{made_readable, Event, Recording, Refusal};
 use crate::rules::{fits_after, Seen};
 use crate::study::{Pair, Study};
+use crate::writer::{self, Handed};
 use std::collections::BTreeMap;
 
 pub struct Book {
@@ -13,6 +14,8 @@ pub struct Book {
     pub asked: Asked,
     /// The random recordings, for the confirmations.
     pub random: Vec<Vec<Event>>,
+    /// The good recordings with their groups, for the writer.
+    pub good: Vec<(&'static str, Recording)>,
     group: &'static str,
 }
 
@@ -24,6 +27,7 @@ impl Book {
             counts: BTreeMap::new(),
             asked: Asked::new(Vec::new()),
             random: Vec::new(),
+            good: Vec::new(),
             group: "none",
         }
     }
@@ -66,6 +70,7 @@ impl Book {
         self.line(&hex_words(bytes), &answer);
         self.count(format!("recordings of {}", self.group));
         self.count_verdicts();
+        self.write_again();
     }
 
     /// Takes a recording; where its preamble is refused, then also the same one with a readable
@@ -75,6 +80,18 @@ impl Book {
         if self.asked.judged.as_ref().err() == Some(&Refusal::plain(13)) {
             self.recording(&made_readable(bytes));
         }
+    }
+
+    /// A good file written again from what was read is the same file.
+    fn write_again(&mut self) {
+        let Some(study) = self.study() else { return };
+        let recording = study.recording.clone();
+        let mut again = vec![170; self.asked.bytes.len()];
+        let said = writer::write(&Handed::of(&recording), &mut again);
+        assert_eq!(said, Ok(again.len()), "{recording:?}");
+        assert_eq!(again, self.asked.bytes, "{recording:?}");
+        self.good.push((self.group, recording));
+        self.count("confirmed: a good file written again is the same file".to_string());
     }
 
     fn count_verdicts(&mut self) {
@@ -109,7 +126,7 @@ impl Book {
 
     pub fn ask2(&mut self, number: usize) {
         let answer = seen_or_refused(self.asked.observed(number));
-        self.count_asking(2, &answer);
+        self.count_asking("question 2", &answer);
         self.line(&format!("?2 {number}"), &answer);
     }
 
@@ -125,7 +142,7 @@ impl Book {
             Ok(Verdict::NotReported) => "not reported".to_string(),
             Err(refusal) => refusal.words(),
         };
-        self.count_asking(3, said.split(':').next().unwrap_or(""));
+        self.count_asking("question 3", said.split(':').next().unwrap_or(""));
         let kept = lent.iter().filter(|e| **e == 9999).count();
         let places = format!(
             "; {kept} of {entries} entries as lent, {}",
@@ -141,7 +158,7 @@ impl Book {
             Ok(None) => "none".to_string(),
             Err(refusal) => refusal.words(),
         };
-        self.count_asking(4, &said);
+        self.count_asking("question 4", &said);
         let answer = format!("{said}; {}", area_words(&work));
         self.line(&format!("?4 {a} {b} {area}"), &answer);
     }
@@ -149,7 +166,7 @@ impl Book {
     pub fn ask5(&mut self, a: usize, b: usize, list: &[usize]) {
         assert!(list.len() <= 600, "a list too long");
         let answer = fault_or_refused(self.asked.check(a, b, list));
-        self.count_asking(5, &answer);
+        self.count_asking("question 5", &answer);
         let numbers: String = list.iter().map(|e| format!(" {e}")).collect();
         self.line(&format!("?5 {a} {b}{numbers}"), &answer);
     }
@@ -166,16 +183,38 @@ impl Book {
         self.line(&asked, &answer);
     }
 
-    fn count_asking(&mut self, question: u8, answer: &str) {
-        self.count(format!("asked question {question}"));
+    /// Asks the writer with a lent buffer of so many bytes and gives the file, if there is one.
+    pub fn ask_writer(&mut self, handed: &Handed, length: usize) -> Option<Vec<u8>> {
+        assert!(length <= 5000, "a buffer too long");
+        assert!(handed.preamble.len() <= 8000, "a preamble too long");
+        assert!(handed.events.len() <= 2000, "too many events");
+        let mut buffer = vec![170u8; length];
+        let said = writer::write(handed, &mut buffer);
+        assert_eq!(said.err(), handed.first_fault(length), "{handed:?}");
+        let (file, behind) = buffer.split_at(said.unwrap_or(0));
+        let words = match said {
+            Ok(_) => format!("wrote {}: {}", file.len(), hex(file)),
+            Err(refusal) => refusal.words(),
+        };
+        let kept = behind.iter().filter(|b| **b == 170).count();
+        let places = format!("; {kept} of {} bytes as lent", behind.len());
+        self.count_asking("the writer", &words);
+        self.line(&writer_words(handed, length), &(words + &places));
+        let written = said.ok().map(|_| file.to_vec());
+        self.count(confirmed_of_writer(handed, written.as_deref()).to_string());
+        written
+    }
+
+    fn count_asking(&mut self, question: &str, answer: &str) {
+        self.count(format!("asked {question}"));
         let first = answer.split(' ').next().unwrap_or("");
         let word = match first {
             "refused" => answer.split(" at ").next().unwrap_or("").to_string(),
             "no" => answer.to_string(),
-            "reported" | "not" | "none" | "yes" | "start" | "-" => first.to_string(),
+            "reported" | "not" | "none" | "yes" | "start" | "-" | "wrote" => first.to_string(),
             _ => "numbers".to_string(),
         };
-        self.count(format!("answers to question {question}: {word}"));
+        self.count(format!("answers to {question}: {word}"));
     }
 }
 
@@ -192,6 +231,15 @@ fn confirmed(study: &Study, pair: &Pair) -> Vec<String> {
         words.push("confirmed: by two threads, reported exactly if predictable");
     }
     words.into_iter().map(str::to_string).collect()
+}
+
+/// What was confirmed of an asking of the writer; a file is read back here.
+fn confirmed_of_writer(handed: &Handed, written: Option<&[u8]>) -> &'static str {
+    let Some(file) = written else {
+        return "confirmed: the writer's refusal is the first fault of what is handed in";
+    };
+    assert!(handed.reads_back(file), "{handed:?}");
+    "confirmed: what is written reads back as the same preamble and events"
 }
 
 /// What is special about a list shown; only to see that the vectors are varied.
@@ -226,6 +274,15 @@ fn shape(study: &Study, pair: &Pair) -> Vec<String> {
 fn refused_line(refusal: &Refusal) -> String {
     let words = refusal.words();
     format!("{words} | {words} | {words} | {words} | {words} | note 0")
+}
+
+/// An asking of the writer; an empty preamble leaves two spaces, no events leave none at the end.
+fn writer_words(handed: &Handed, length: usize) -> String {
+    let [threads, kinds, objects] = handed.entries;
+    let preamble = hex_words(&handed.preamble);
+    let events = hex_words(&handed.events.concat());
+    let words = format!("! {length} {threads} {kinds} {objects} / {preamble} / {events}");
+    words.trim_end().to_string()
 }
 
 /// What is left of a work area: how many of the bytes that a question may use are zero, and how

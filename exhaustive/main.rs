@@ -1,5 +1,6 @@
-//! An independent exhaustive program: it answers the six questions of paper 01 by the published
-//! definitions alone, by listing and comparing, and writes down what it found as vectors.
+//! An independent exhaustive program: it answers the six questions of paper 01 and the writer's of
+//! request One by the published definitions alone, by listing and comparing, and writes down what
+//! it found as vectors.
 
 mod askings;
 mod book;
@@ -18,6 +19,8 @@ mod short;
 mod stability;
 mod study;
 mod worked;
+mod writer;
+mod writings;
 
 use book::Book;
 use chance::Chance;
@@ -32,6 +35,7 @@ fn vectors() -> Book {
     damaged::write(&mut book);
     limits::write(&mut book);
     samples::write(&mut book);
+    writings::write(&mut book);
     book
 }
 

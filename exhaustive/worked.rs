@@ -10,7 +10,7 @@ pub const R: &str = "0+0 0r0 0w0 0-0 1+0 1r0 1w0 1-0";
 pub const S: &str = "0w1 0+0 0w0 0-0 1+0 1r1 1r0 1-0";
 pub const T: &str = "0w1 0+0 0w0 0-0 1+0 1r0 1r1 1-0";
 const U: &str = "0r0 0w2 1w0 1w2";
-const V: &str = "0w0 1r0";
+pub const V: &str = "0w0 1r0";
 pub const W: &str = "0w0 2+0 2w1 2r0 2-0 1r1 1w0";
 const X: &str = "2+1 2w1 0r1 0w0 1+0 1r0 1-0 2+0 2-0 2-1";
 

@@ -1,0 +1,371 @@
+//! Group 8: askings of the writer (request One).
+
+use crate::book::Book;
+use crate::chance::Chance;
+use crate::damaged::{damages, pairs_of, Damage, Raw, LOCKS, TO_DAMAGE};
+use crate::preambles::{long, placed, spoiled_places, EDGES};
+use crate::questions::AREA;
+use crate::recording::{file, told, w, Recording};
+use crate::worked::{Q, V};
+use crate::writer::Handed;
+
+/// The longest buffer that is lent.
+const MOST: usize = 5000;
+
+pub fn write(book: &mut Book) {
+    book.group("group 8: the writer");
+    the_empty_one(book);
+    of_the_book(book);
+    short_and_random(book);
+    beside_a_recording(book);
+    bytes_of_preambles(book);
+    lengths(book);
+    fields(book);
+    locks(book);
+    two_at_once(book);
+    judged_last(book);
+    uneven(book);
+    uneven_first(book);
+    at_random(book);
+}
+
+/// Asks with a buffer of exactly the file's length and reads back what was written.
+fn write_and_read(book: &mut Book, handed: &Handed) {
+    let written = book.ask_writer(handed, handed.file_length());
+    book.recording(&written.expect("a good file"));
+}
+
+fn the_empty_one(book: &mut Book) {
+    book.title("no preamble and no events: 8 bytes");
+    let nothing = Handed::even(&[], &[]);
+    for length in [0, 1, 7, 8, 9, 100, MOST] {
+        book.ask_writer(&nothing, length);
+    }
+    write_and_read(book, &nothing);
+}
+
+/// The good recordings of some groups.
+fn good_of(book: &Book, groups: &[&str]) -> Vec<Recording> {
+    let wanted = |group: &str| groups.iter().any(|g| group.starts_with(g));
+    let good = book.good.iter().filter(|(group, _)| wanted(group));
+    good.map(|(_, recording)| recording.clone()).collect()
+}
+
+fn of_the_book(book: &mut Book) {
+    book.title("the worked examples, the figures and the samples, written again");
+    let recordings = good_of(book, &["group 1", "group 2", "group 7"]);
+    for (turn, recording) in recordings.iter().enumerate() {
+        let handed = Handed::of(recording);
+        let length = handed.file_length();
+        for buffer in [length, length - 1, length + 1 + turn] {
+            book.ask_writer(&handed, buffer);
+        }
+    }
+    book.title("the limits, written again");
+    for recording in good_of(book, &["group 6"]) {
+        let handed = Handed::of(&recording);
+        book.ask_writer(&handed, handed.file_length());
+    }
+}
+
+/// Some of the short and the random recordings, each with a readable preamble.
+fn short_and_random(book: &mut Book) {
+    book.title("short and random recordings with preambles of several kinds");
+    let mut chance = Chance::new(8);
+    let good = good_of(book, &["group 3", "group 4"]);
+    for (turn, recording) in good.iter().step_by(83).enumerate() {
+        let preamble = readable_preamble(&mut chance, turn);
+        let handed = Handed::new(&preamble, &recording.events);
+        let length = handed.file_length();
+        let other = [0, length / 2, length - 1, length + 1, length + 40, MOST];
+        book.ask_writer(&handed, chance.one_of(&other));
+        if turn % 6 == 0 {
+            write_and_read(book, &handed);
+        } else {
+            book.ask_writer(&handed, length);
+        }
+    }
+}
+
+fn readable_preamble(chance: &mut Chance, turn: usize) -> Vec<u8> {
+    match turn % 8 {
+        0 => Vec::new(),
+        1 => b"night 7, stand 4".to_vec(),
+        2 => b"\n".to_vec(),
+        3 => b"two lines,\nthe last one ended\n".to_vec(),
+        4 => b"\n\n ~ ~\n\n".to_vec(),
+        5 => b"(   PL".to_vec(),
+        _ => {
+            let length = chance.from_to(1, 90);
+            let any = |chance: &mut Chance| match chance.below(20) {
+                0 => 0x0A,
+                _ => chance.from_to(0x20, 0x7E) as u8,
+            };
+            (0..length).map(|_| any(chance)).collect()
+        }
+    }
+}
+
+/// What is written has nothing to do with the recording asked about, which stays the same one.
+fn beside_a_recording(book: &mut Book) {
+    book.title("the questions are asked of the last recording, not of what was written");
+    book.recording(&file(b"Q", &told(Q)));
+    book.ask_writer(&Handed::new(b"V", &told(V)), 100);
+    book.ask3(1, 8, 8, AREA);
+    book.ask_writer(&Handed::new(b"V\t", &told(V)), 100);
+    book.ask6(b"operator");
+    book.ask_writer(&Handed::new(b"", &told("0-0")), 100);
+    book.ask4(0, 0, AREA);
+    book.ask2(8);
+    book.recording(&file(b"\t", &told(Q)));
+    book.ask_writer(&Handed::new(b"V", &told(V)), 100);
+    book.ask6(b"operator");
+    book.ask5(1, 2, &[]);
+}
+
+fn bytes_of_preambles(book: &mut Book) {
+    book.title("refusal 13: a byte alone, first, in the middle and last in the preamble");
+    for byte in EDGES {
+        for preamble in placed(byte) {
+            for events in [vec![], told(V)] {
+                book.ask_writer(&Handed::new(&preamble, &events), 100);
+            }
+        }
+    }
+    write_and_read(book, &Handed::new(b"\n ~", &told(V)));
+}
+
+/// Numbers of events with preambles, around files of 4,096 bytes and around 512 events.
+const LENGTHS: [(usize, usize); 24] = [
+    (0, 4087),
+    (0, 4088),
+    (0, 4089),
+    (0, 8000),
+    (1, 4084),
+    (1, 4085),
+    (511, 2044),
+    (511, 2045),
+    (512, 0),
+    (512, 2040),
+    (512, 2041),
+    (513, 0),
+    (513, 1),
+    (513, 2036),
+    (513, 2037),
+    (1021, 0),
+    (1021, 4),
+    (1021, 5),
+    (1022, 0),
+    (1022, 1),
+    (1023, 0),
+    (1023, 1),
+    (2000, 0),
+    (2000, 8000),
+];
+
+fn lengths(book: &mut Book) {
+    book.title("refusals 1 and 3: so many events and so long a preamble; 13 and 5 beside them");
+    for (n, length) in LENGTHS {
+        let handed = Handed::new(&long(length, None), &vec![w(3, 200); n]);
+        let whole = handed.file_length();
+        for buffer in [0, whole - 1, whole, MOST].iter().filter(|b| **b <= MOST) {
+            book.ask_writer(&handed, *buffer);
+        }
+        for bad in with_a_fault(&handed) {
+            book.ask_writer(&bad, MOST);
+        }
+    }
+    write_and_read(book, &Handed::new(&long(2040, None), &vec![w(3, 200); 512]));
+    write_and_read(book, &Handed::new(&long(4088, None), &[]));
+}
+
+/// The same with an unreadable byte at each of three places, and with an unknown kind.
+fn with_a_fault(handed: &Handed) -> Vec<Handed> {
+    let length = handed.preamble.len();
+    let mut all = Vec::new();
+    if length > 1 {
+        for (place, byte) in spoiled_places(length) {
+            let mut bad = handed.clone();
+            bad.preamble[place] = byte;
+            all.push(bad);
+        }
+    }
+    if let Some(middle) = handed.events.len().checked_sub(1).map(|last| last / 2) {
+        let mut bad = handed.clone();
+        bad.events[middle][1] = 9;
+        all.push(bad);
+    }
+    all
+}
+
+/// The event with its thread, kind or object at an edge.
+fn at_edges(event: [u8; 4]) -> Vec<[u8; 4]> {
+    let [thread, kind, low, high] = event;
+    let threads = [0, 15, 16, 17, 255].map(|t| [t, kind, low, high]);
+    let kinds = [0, 1, 2, 3, 4, 5, 6, 255].map(|k| [thread, k, low, high]);
+    let objects = [0u16, 255, 256, 257, 511, 32768, 65280, 65535];
+    let objects = objects.map(|o| [thread, kind, o as u8, (o >> 8) as u8]);
+    [&threads[..], &kinds, &objects].concat()
+}
+
+fn fields(book: &mut Book) {
+    book.title("refusals 5, 6, 7: kind, thread and object of the first, middle and last event");
+    for (text, places) in [("0w0", vec![0]), (Q, vec![0, 3, 7])] {
+        for place in places {
+            let mut handed = Handed::new(b"n", &told(text));
+            for event in at_edges(handed.events[place]) {
+                handed.events[place] = event;
+                book.ask_writer(&handed, handed.file_length());
+            }
+        }
+    }
+    write_and_read(book, &Handed::new(b"edges", &told("15w255 15+255 0r0 0+0")));
+}
+
+fn locks(book: &mut Book) {
+    book.title("refusals 8 and 9: held locks, releases of what is not held");
+    let padding = told("3w7 4r7 5+77");
+    for case in LOCKS.map(told) {
+        book.ask_writer(&Handed::new(b"", &case), 200);
+        let later = [&padding[..], &case, &case].concat();
+        book.ask_writer(&Handed::new(b"locks", &later), 200);
+    }
+    let crossed = told("0+0 1+1 0+2 0-0 1+0 0-2");
+    write_and_read(book, &Handed::new(b"locks", &crossed));
+}
+
+/// The damages that what is handed in can have: those of the trailer are none of them.
+fn damages_handed_in() -> Vec<Damage> {
+    let mut damages = damages();
+    damages.retain(|(number, _)| ![2, 3, 4].contains(number));
+    damages.push((3, |raw, _| raw.events.resize(513, [0, 2, 0, 0])));
+    damages
+}
+
+fn handed(raw: &Raw) -> Handed {
+    Handed::even(&raw.preamble, &raw.events)
+}
+
+fn two_at_once(book: &mut Book) {
+    book.title("two damages at once: 1, 3, 13, then event by event 5, 6, 7, then 8 or 9");
+    for raw in pairs_of(&damages_handed_in()) {
+        book.ask_writer(&handed(&raw), MOST);
+    }
+}
+
+/// Each damage alone, done to the fourth event.
+fn one_at_a_time() -> Vec<Handed> {
+    let damaged = damages_handed_in().into_iter().map(|(_, damage)| {
+        let mut raw = Raw::new(b"night 12", &told(TO_DAMAGE));
+        damage(&mut raw, 3);
+        handed(&raw)
+    });
+    damaged.collect()
+}
+
+fn judged_last(book: &mut Book) {
+    book.title("refusal 10, a buffer too short, is judged after each other refusal");
+    for damaged in one_at_a_time() {
+        let whole = damaged.file_length();
+        for length in [0, 1, whole - 1, whole, MOST] {
+            book.ask_writer(&damaged, length);
+        }
+    }
+    let good = Handed::new(b"night 12", &told(TO_DAMAGE));
+    for length in 0..=good.file_length() + 2 {
+        book.ask_writer(&good, length);
+    }
+    write_and_read(book, &good);
+}
+
+/// Each number of entries in each of the three lists.
+fn each_entries(choices: &[usize]) -> Vec<[usize; 3]> {
+    let mut all = Vec::new();
+    for threads in choices {
+        for kinds in choices {
+            for objects in choices {
+                all.push([*threads, *kinds, *objects]);
+            }
+        }
+    }
+    all
+}
+
+fn uneven(book: &mut Book) {
+    book.title("refusal 10, lists of different lengths: so many threads, kinds and objects");
+    for (text, choices) in [("0w0", &[0, 1][..]), (Q, &[0, 7, 8])] {
+        for entries in each_entries(choices) {
+            let mut handed = Handed::new(b"uneven", &told(text));
+            handed.entries = entries;
+            book.ask_writer(&handed, 60);
+        }
+    }
+    let mut fewer = Handed::new(b"the first seven", &told(Q));
+    fewer.entries = [7; 3];
+    write_and_read(book, &fewer);
+    for entries in each_entries(&[512, 513]) {
+        let mut handed = Handed::new(b"", &vec![w(0, 0); 513]);
+        handed.entries = entries;
+        book.ask_writer(&handed, 100);
+    }
+}
+
+fn uneven_first(book: &mut Book) {
+    book.title("refusal 10, lists of different lengths, is judged before each other refusal");
+    for damaged in one_at_a_time() {
+        for list in 0..3 {
+            let mut handed = damaged.clone();
+            handed.entries[list] -= 1;
+            book.ask_writer(&handed, MOST);
+            handed.entries[list] = 0;
+            book.ask_writer(&handed, 0);
+        }
+    }
+}
+
+/// Lists of any numbers near the edges, with any preamble and buffer; what is written is read back.
+fn at_random(book: &mut Book) {
+    book.title("lists, preambles and buffers at random");
+    let mut chance = Chance::new(88);
+    for turn in 0..120 {
+        let handed = random_handed(&mut chance, turn);
+        let whole = handed.file_length();
+        let length = chance.one_of(&[0, whole - 1, whole, whole, whole + 9]);
+        if let Some(file) = book.ask_writer(&handed, length) {
+            book.recording(&file);
+        }
+    }
+}
+
+fn random_handed(chance: &mut Chance, turn: usize) -> Handed {
+    let n = chance.below(7);
+    let events: Vec<[u8; 4]> = (0..n).map(|_| random_event(chance)).collect();
+    let mut preamble = readable_preamble(chance, turn);
+    if chance.percent(15) {
+        preamble.push(chance.one_of(&EDGES));
+    }
+    let mut handed = Handed::even(&preamble, &events);
+    if chance.percent(10) {
+        handed.entries[chance.below(3)] = chance.below(n + 1);
+    }
+    handed
+}
+
+/// Four bytes of an event, each now and then beyond its edge.
+fn random_event(chance: &mut Chance) -> [u8; 4] {
+    let (odd_thread, odd_kind) = (chance.one_of(&[16, 255]), chance.one_of(&[0, 5]));
+    let mut odd_or = |odd: u8, usual: &[u8]| {
+        let usual = chance.one_of(usual);
+        if chance.percent(7) {
+            odd
+        } else {
+            usual
+        }
+    };
+    [
+        odd_or(odd_thread, &[0, 0, 1, 15]),
+        odd_or(odd_kind, &[1, 1, 2, 2, 3, 3, 4]),
+        odd_or(2, &[0, 0, 1, 255]),
+        odd_or(1, &[0]),
+    ]
+}
