@@ -18,6 +18,7 @@ mod samples;
 mod short;
 mod stability;
 mod study;
+mod text;
 mod worked;
 mod writer;
 mod writings;
@@ -54,7 +55,11 @@ fn write(dir: &Path) {
         put(dir, &format!("samples/{name}.rec"), &bytes);
         let report = samples::report(&bytes);
         put(dir, &format!("samples/{name}.out"), report.as_bytes());
+        let text = samples::text(&bytes);
+        put(dir, &format!("samples/{name}.txt"), text.as_bytes());
     }
+    put(dir, "crates/compose/stdin", samples::COMPOSED.as_bytes());
+    put(dir, "crates/compose/stdout", &samples::composed());
     let long = samples::long_report();
     let report = samples::report(&long);
     assert!(

@@ -1,18 +1,21 @@
-//! Group 7: the samples, and the nightly program's report (paper 01, "The nightly program").
+//! Group 7: the samples, their texts, and the nightly program's report (paper 01, "The nightly
+//! program").
 
 use crate::askings::{ask_next, ask_verdict};
 use crate::book::Book;
 use crate::chance::Chance;
 use crate::questions::{Asked, AREA};
-use crate::recording::{acq, file, r, rel, told, w, Event};
+use crate::recording::{acq, file, judge, r, rel, told, w, Event};
+use crate::text::{read_text, text_of};
 use crate::worked::Q;
+use crate::writer::{write as write_file, Handed};
 
 /// The samples' names and files.
 pub fn all() -> Vec<(&'static str, Vec<u8>)> {
     vec![
         ("q", file(&[], &told(Q))),
-        ("night", file(b"night 12, stand-in run\n", &night())),
-        ("relay", file(b"relay stand, two arms\n", &relay())),
+        ("night", file(b"night 12, stand-in run", &night())),
+        ("relay", file(b"relay stand, two arms", &relay())),
     ]
 }
 
@@ -74,6 +77,42 @@ pub fn report(bytes: &[u8]) -> String {
         races += 1;
     }
     text + &format!("races {races}\n")
+}
+
+/// A sample's text, which must name the same recording.
+pub fn text(bytes: &[u8]) -> String {
+    let recording = judge(bytes).expect("a good sample");
+    let text = text_of(&recording);
+    assert_eq!(read_text(&text), recording);
+    text
+}
+
+/// A text with every kind of event and a preamble of three lines, the second of them empty.
+pub const COMPOSED: &str = "\
+note stand 4, night 13 ~ both arms
+note \n\
+note begun late!
+0 write 7
+0 acquire 255
+0 read 42
+0 release 255
+15 acquire 255
+15 read 42
+15 release 255
+3 write 128
+15 write 7
+0 read 128
+3 read 0
+";
+
+/// The file that the text above names.
+pub fn composed() -> Vec<u8> {
+    let recording = read_text(COMPOSED);
+    assert_eq!(text_of(&recording), COMPOSED);
+    let handed = Handed::of(&recording);
+    let mut bytes = vec![0; handed.file_length()];
+    assert_eq!(write_file(&handed, &mut bytes), Ok(bytes.len()));
+    bytes
 }
 
 const KEEPER: u8 = 0;
