@@ -1,19 +1,19 @@
 -- What is written reads back as the same preamble and events, whatever the size of an event.
-use Prim.Native.Nat.{ℕ, suc, _+_, _-_, _*_, _/_, _%_, _≤_}
+use Prim.Native.Nat.{ℕ, _+_, _-_, _*_, _/_, _%_, _≤_}
 use native.Mathlib.Omega.{arith}
 use native.Mathlib.Nat.{mul-div-right}
 use mathlib.Core.Path.{_≡_, refl, sym, _∙_, ap, ap₂}
 use mathlib.Core.List.{List, [], _∷_, _++_, append-assoc}
-use lib.ListN.{length, getD, take, drop, length-append}
+use lib.ListN.{length, length-append}
 use lib.Seq.{getD-append-add, take-at, drop-at}
 use Rattle.model.specs.Trace.{Event, Trace}
-use Rattle.limits.specs.Limits.{trailerBytes, markFirst, markSecond}
+use Rattle.limits.specs.Limits.{trailerBytes}
 use Rattle.format.specs.Bytes.{byte, eventAt, eventsFrom, traceOf}
 use Rattle.format.specs.Layout.{distance, count, start, preamble, eventPart, events, Marked, Pointed}
 use Rattle.layout.specs.Written.{writtenEvent, writtenEvents, writtenTrailer, written, writtenBytes}
 use Rattle.layout.specs.RoundTrip.{ReadsAs}
 use Rattle.layout.proofs.ListLaws.{event-length, events-length}
-use Rattle.layout.proofs.SizeLaws.{trailer-length, written-length}
+use Rattle.layout.proofs.SizeLaws.{written-length}
 
 -- ---- the events
 

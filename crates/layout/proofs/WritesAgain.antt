@@ -1,10 +1,10 @@
 -- A file written again from what was read is the same file, whatever the size of an event.
-use Prim.Native.Nat.{ℕ, zero, suc, _+_, _-_, _*_, _/_, _%_, _≤_, _<_}
+use Prim.Native.Nat.{ℕ, zero, suc, _+_, _-_, _*_, _/_, _≤_, _<_}
 use native.Mathlib.Omega.{arith}
 use native.Mathlib.Nat.{mul-div-right, mul-suc, mul-zero, mul-le-mul-left}
 use mathlib.Core.Path.{_≡_, refl, sym, _∙_, ap, ap₂}
-use mathlib.Core.List.{List, [], _∷_, _++_}
-use lib.ListN.{length, getD, take, drop, replicate, length-drop, getD-replicate, List·getD-eq-default}
+use mathlib.Core.List.{List, _++_}
+use lib.ListN.{length, take, drop, length-drop, getD-replicate, List·getD-eq-default}
 use lib.Dec.{ltb}
 use borrow.Author.Tests.{ltb-true, ltb-false}
 use lib.Seq.{ext-getD, take-all, getD-take, getD-drop, take-add, drop-drop, length-take-le}
@@ -12,7 +12,7 @@ use Rattle.model.proofs.Tests.{by-cases}
 use Rattle.limits.specs.Limits.{eventBytes, trailerBytes}
 use Rattle.format.specs.Bytes.{byte, eventAt, eventsFrom, traceOf}
 use Rattle.format.specs.Layout.{distance, count, start, preamble, eventPart, events, trailer, Layout}
-use Rattle.format.proofs.PartLaws.{layout-parts, filled}
+use Rattle.format.proofs.PartLaws.{layout-parts}
 use Rattle.layout.specs.Written.{writtenEvent, writtenEvents, writtenTrailer, written}
 use Rattle.layout.specs.RoundTrip.{AllBytes, Plain}
 use Rattle.layout.proofs.ListLaws.{event-length}

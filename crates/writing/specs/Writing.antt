@@ -1,17 +1,45 @@
 -- The writer: the answer, and the lent buffer after it.
 use Prim.Native.Nat.{ℕ, _≤_}
+use mathlib.Core.Path.{_≡_}
 use mathlib.Core.Bool.{Bool, cond, _&&_}
 use mathlib.Core.Option.{Option, none, some}
 use mathlib.Core.List.{List, _++_}
 use lib.ListN.{length, drop}
 use lib.Dec.{eqb, leb}
-use Rattle.limits.specs.Limits.{eventBytes}
+use Rattle.model.specs.Trace.{Trace}
+use Rattle.model.specs.Good.{Good, maxEvents}
+use Rattle.model.specs.Refusals.{RefusedEvent, FirstRefusal}
+use Rattle.limits.specs.Limits.{eventBytes, maxBytes}
+use Rattle.limits.specs.Refusals.{numberOf, eventOf}
 use Rattle.limits.specs.declared.Refusal.{Refusal}
-use Rattle.limits.specs.declared.Refusal.the-variants.{ListShort}
+use Rattle.limits.specs.declared.Refusal.the-variants.{FileSize, EventCount, ListShort, Preamble}
+use Rattle.limits.specs.declared.EventNumber.the-variants.{At}
+use Rattle.preambles.specs.Readable.{Readable}
 use Rattle.judging.specs.Judged.{GoodFile, FileRefusal, orElse, unless, fileRefusal}
-use Rattle.layout.specs.Written.{written, traceFrom, Even}
+use Rattle.layout.specs.Written.{written, writtenBytes, traceFrom, Even}
 use Rattle.writing.specs.declared.Written.{Written}
 use Rattle.writing.specs.declared.Written.the-variants.{Refused, Bytes}
+
+-- ---- what reading says of a written file, by what was handed in: a preamble p and a trace t, with z bytes to an event
+
+pub record Writable (z : ℕ) (p : List ℕ) (t : Trace) : Type 0 where
+  pub fits : writtenBytes z (length p) (length t) ≤ maxBytes
+  pub readable : Readable p
+  pub good : Good t
+
+-- refusals 1, 3, 13 and 5 to 9; 2 and 4 have no case
+pub data WriteRefusal (z : ℕ) (p : List ℕ) (t : Trace) : Refusal → Type 0 where
+  too-long : ¬ (writtenBytes z (length p) (length t) ≤ maxBytes) → WriteRefusal z p t FileSize
+  too-many : writtenBytes z (length p) (length t) ≤ maxBytes → ¬ (length t ≤ maxEvents) → WriteRefusal z p t EventCount
+  unreadable : writtenBytes z (length p) (length t) ≤ maxBytes → length t ≤ maxEvents → ¬ Readable p → WriteRefusal z p t Preamble
+  bad-event : {r : Refusal} → writtenBytes z (length p) (length t) ≤ maxBytes → length t ≤ maxEvents → Readable p
+      → (x : RefusedEvent) → FirstRefusal t x → numberOf r ≡ x .code → eventOf r ≡ At (x .event) → WriteRefusal z p t r
+
+abbrev pub WriteAnswer : ℕ → List ℕ → Trace → Option Refusal → Type 0
+WriteAnswer z p t none = Writable z p t
+WriteAnswer z p t (some r) = WriteRefusal z p t r
+
+-- ---- the answer of the writer
 
 -- the file of a preamble p and of the events whose threads, kinds and objects the lists have
 abbrev pub fileFrom : List ℕ → List ℕ → List ℕ → List ℕ → List ℕ
