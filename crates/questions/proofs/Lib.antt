@@ -6,3 +6,5 @@ pub mod VerdictLaws
 pub mod VerdictsExact
 -- Demand 3 of the answers
 pub mod StayTrue
+-- The round trips of the writer and the questions
+pub mod RoundTrips

@@ -4,3 +4,5 @@ pub mod Verdicts
 pub mod Searching
 -- demand 3, of the answers
 pub mod AnswersStayTrue
+-- the writer beside the questions
+pub mod RoundTrips

@@ -1,4 +1,5 @@
-// The public questions. Each takes a file's bytes, judges them first, and asks nothing of its caller. Question 6 is `note` of the crate noting.
+// The public questions. Each takes a file's bytes, judges them first, and asks nothing of its caller. Question 6 is `note` of the crate noting;
+// the writer, which asks nothing either, is `write_file` of the crate writing.
 pub use checking::Check;
 use format::File;
 use limits::Refusal;
@@ -7,6 +8,8 @@ use listing::Listed;
 pub use noting::note;
 pub use observing::Observed;
 pub use verdicts::Finding;
+pub use writing::Written;
+pub use writing::write_file;
 ghost use mathlib.Core.Path.{_≡_};
 ghost use mathlib.Core.Option.{none};
 ghost use Rattle.model.specs.Good.{Good};

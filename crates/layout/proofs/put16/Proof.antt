@@ -12,4 +12,4 @@ put16-spec =
     (λ c. search needs)
     (λ c κs. search needs)
     (λ c. search needs)
-    (λ c. search (put-two, needs)))
+    (λ c. search put-two))

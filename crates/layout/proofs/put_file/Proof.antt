@@ -11,4 +11,4 @@ put-file-spec =
     (λ c κs. search (events-room, needs))
     (λ c. search (count-fits, needs))
     (λ c κs. search (trailer-room, needs))
-    (λ c. search (file-put, needs)))
+    (λ c. search file-put))

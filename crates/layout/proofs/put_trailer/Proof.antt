@@ -16,4 +16,4 @@ put-trailer-spec =
     (λ c κs. search needs)
     (λ c κs. search needs)
     (λ c. search needs)
-    (λ c. search (trailer-put, needs)))
+    (λ c. search trailer-put))

@@ -8,9 +8,9 @@ write-file-spec =
     tie.close
     (tie.spec
     (λ c κs. search needs)
-    (λ c. search (lists-uneven, needs))
+    (λ c. search lists-uneven)
     (λ c κs. search needs)
-    (λ c. search (file-long, needs))
-    (λ c κs. search (fitting, needs))
+    (λ c. search file-long)
+    (λ c κs. search fitting)
     (λ c. search needs)
-    (λ c. search (handed-on, needs)))
+    (λ c. search handed-on))

@@ -9,7 +9,7 @@ write-fitting-spec =
     (tie.spec
     (λ c κs. search needs)
     (λ c. search needs)
-    (λ c. search (front-count, needs))
+    (λ c. search front-count)
     (λ c κs. search needs)
     (λ c. search needs)
-    (λ c. search (front-handed, needs)))
+    (λ c. search front-handed))
