@@ -1,5 +1,5 @@
 -- What is written is answered for as it was handed in, and what is read is written again.
-use Prim.Native.Nat.{ℕ, _≤_}
+use Prim.Native.Nat.{ℕ}
 use native.Mathlib.Omega.{arith}
 use mathlib.Core.Path.{_≡_, refl, sym, _∙_, ap}
 use mathlib.Core.Logic.{_≢_}
@@ -7,17 +7,16 @@ use mathlib.Core.Option.{none}
 use mathlib.Core.List.{List, [], _∷_}
 use lib.ListN.{length, take, drop, length-map}
 use lib.Seq.{take-append-seam}
-use Rattle.model.specs.Trace.{Event, Trace}
+use Rattle.model.specs.Trace.{Trace}
 use Rattle.limits.specs.Limits.{eventBytes}
 use Rattle.limits.specs.declared.Refusal.{Refusal}
 use Rattle.limits.specs.declared.Refusal.the-variants.{ListShort}
 use Rattle.format.specs.Layout.{preamble, events}
 use Rattle.judging.specs.Judged.{GoodFile}
 use Rattle.judging.proofs.FileLaws.{meaning}
-use Rattle.noting.specs.Note.{Slice, ownNote, own-note, lent-note, answerNote, Part}
+use Rattle.noting.specs.Note.{Slice, ownNote, own-note, lent-note, answerNote}
 use Rattle.noting.proofs.NoteExact.{note-exactly}
 use Rattle.layout.specs.Written.{written, traceFrom, Even}
-use Rattle.layout.specs.RoundTrip.{AllBytes}
 use Rattle.layout.proofs.ReadsBack.{reads-back}
 use Rattle.layout.proofs.WritesAgain.{writes-again, plain-today}
 use Rattle.writing.specs.Writing.{fileFrom, holding, Writes, uneven, not-read, buffer-short, wrote}

@@ -1,6 +1,6 @@
 // Asks the six questions of the recordings in the text on standard input. Each line read has one line as its answer: a title (it begins
-// with '=') itself; a recording (words of hex digits) what all questions say to it; and a line that begins with '?', a question's number
-// and what goes with it, that question's answer for the last recording.
+// with '=') itself; a recording (words of hex digits) what all questions say to it; a line that begins with '?', a question's number
+// and what goes with it, that question's answer for the last recording; and a line that begins with '!' what the writer says to it.
 mod recordings;
 
 use libc::STDIN_FILENO;
@@ -48,6 +48,10 @@ fn answer(line: &[u8], file: &mut [u8], n: usize) -> usize
     }
     if kind == b'?' {
         ask(line, &file[0..n]);
+        return n;
+    }
+    if kind == b'!' {
+        answers::ask_writer(line);
         return n;
     }
     let m = text::bytes(line, file);
