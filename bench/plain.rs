@@ -25,12 +25,19 @@ fn parse(file: &[u8]) -> Option<Vec<Event>> {
     if n > 512 || distance != 8 + 4 * n || distance > file.len() {
         return None;
     }
+    let first = file.len() - distance;
+    if file[..first]
+        .iter()
+        .any(|b| !matches!(b, 0x0A | 0x20..=0x7E))
+    {
+        return None;
+    }
     let mut events = vec![Event {
         thread: 0,
         kind: 0,
         object: 0,
     }];
-    for e in file[file.len() - distance..file.len() - 8].chunks(4) {
+    for e in file[first..file.len() - 8].chunks(4) {
         events.push(Event {
             thread: e[0],
             kind: e[1],

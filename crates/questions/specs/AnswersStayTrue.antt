@@ -14,7 +14,7 @@ use Rattle.verdicts.specs.declared.Finding.{Finding}
 use Rattle.verdicts.specs.declared.Finding.the-variants.{Refused, Reported}
 use Rattle.checking.specs.declared.Check.the-variants.{Yes}
 
--- s′ is a good file, with any preamble, whose events extend those of s
+-- s′ is a good file, with any preamble that a good file may have, whose events extend those of s
 pub record Extends (s s′ : List ℕ) : Type 0 where
   pub file : GoodFile eventBytes s′
   pub extension : Extension (eventsOf s) (eventsOf s′)
