@@ -17,17 +17,8 @@ use Rattle.report.specs.declared.Begun.the-variants.{Good as GoodWith}
 use Rattle.blocks.specs.declared.Place.{Place}
 use Rattle.blocks.specs.declared.Written.{Written}
 use Rattle.blocks.specs.declared.Written.the-variants.{Ended, More}
-use Rattle.nightly.specs.Input.{Within}
-use Rattle.nightly.specs.declared.Input.{Input}
-use Rattle.nightly.specs.declared.Input.the-variants.{Bytes}
 use Rattle.report.proofs.FinishLaws.{long-starting}
 use Rattle.blocks.proofs.WritingLaws.{ended-within, filled-within, filled-less, filled-again}
-
--- ---- the bytes that are read
-
-pub input-within : (r : Input) (file : List ℕ) → Within r file → (n : ℕ) → r ≡ Bytes n → n ≤ length file
-unfolding Within
-input-within r file w n e = rw e at w
 
 -- ---- the first line
 

@@ -1,8 +1,8 @@
 // The nightly program: reads one file from standard input and writes its report to standard output.
 use blocks::Place;
 use blocks::Written;
+use input::Input;
 use libc::STDERR_FILENO;
-use libc::STDIN_FILENO;
 use libc::STDOUT_FILENO;
 use limits::Trace;
 use report::Begun;
@@ -12,38 +12,12 @@ ghost use Rattle.format.specs.Bytes.{trace};
 ghost use Rattle.blocks.specs.Rest.{start};
 ghost use Rattle.blocks.specs.Writing.{Writing};
 ghost use Rattle.report.specs.Whole.{Starting};
-ghost use Rattle.nightly.specs.Input.{Within};
 
 // One byte more than a file may have is enough to refuse it.
 const INPUT_BYTES: usize = Trace::MAX_BYTES + 1;
 
 // The report is written in blocks of at most this many bytes.
 const BLOCK_BYTES: usize = 65536;
-
-// How many bytes were read, or that a read failed.
-pub enum Input {
-    Failed,
-    Bytes(usize),
-}
-
-// Reads until the buffer is full or the input ends.
-fn read_input(file: &mut [u8]) -> Input
-    ensures { λ r. ⌜ Within r (now (file .exit)) ⌝ }
-{
-    let mut n = 0;
-    while n < file.len() {
-        let got = libc::read(STDIN_FILENO, &mut file[n..]);
-        if got < 0 {
-            return Input::Failed;
-        }
-        let more = io::count(got, &file[n..]);
-        if more == 0 {
-            return Input::Bytes(n);
-        }
-        n += more;
-    }
-    Input::Bytes(n)
-}
 
 // Writes the first n bytes of a buffer, and says whether that succeeded.
 fn put(out: &[u8], n: usize) -> bool
@@ -135,7 +109,7 @@ fn write_report(file: &[u8]) {
 
 fn main() {
     let mut file = [0u8; INPUT_BYTES];
-    match read_input(&mut file) {
+    match input::read(&mut file) {
         Input::Failed => {
             io::write_all(STDERR_FILENO, b"nightly: cannot read the recording\n");
         }

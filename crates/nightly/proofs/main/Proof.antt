@@ -1,5 +1,5 @@
 use borrow.Author.Needs.{needs}
-use Rattle.nightly.proofs.NightlyLaws.{input-within}
+use Rattle.input.proofs.InputLaws.{input-within}
 use Rattle.nightly.proofs.main.Statement.{statement}
 use Rattle.nightly.proofs.main.Tie as tie
 

@@ -2,19 +2,19 @@ use Prim.Native.Nat.{_≤_, _-_}
 use mathlib.Core.Path.{_≡_}
 use lib.ListN.{length}
 use borrow.Author.Needs.{needs}
-use Rattle.nightly.specs.Input.{Within}
-use Rattle.nightly.proofs.read_input.Statement.{statement}
-use Rattle.nightly.proofs.read_input.Tie as tie
+use Rattle.input.specs.Input.{Within}
+use Rattle.input.proofs.read.Statement.{statement}
+use Rattle.input.proofs.read.Tie as tie
 
 abbrev Inv-loop : tie.InvT-loop
-Inv-loop file₀ n₀ file n = (length file ≡ length file₀) × (n ≤ length file₀)
+Inv-loop buffer₀ n₀ buffer n = (length buffer ≡ length buffer₀) × (n ≤ length buffer₀)
 
 abbrev μ-loop : tie.MeasureT-loop
-μ-loop file₀ n₀ file n = length file₀ - n
+μ-loop buffer₀ n₀ buffer n = length buffer₀ - n
 
-pub read-input-spec : {M : Type 1} → statement M
+pub read-spec : {M : Type 1} → statement M
 unfolding Within
-read-input-spec =
+read-spec =
     tie.close
     (tie.spec
     Inv-loop

@@ -1,0 +1,2 @@
+-- What a caller is told
+pub mod InputLaws

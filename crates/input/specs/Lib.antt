@@ -1,0 +1,2 @@
+-- Standard input.
+pub mod Input

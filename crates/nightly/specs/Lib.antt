@@ -1,2 +1,0 @@
--- The input of the nightly program.
-pub mod Input
