@@ -1,0 +1,24 @@
+use Rattle.composing.proofs.LineLaws.{part-length, event-short, event-number, event-large, event-read}
+use borrow.Author.Needs.{needs}
+use Rattle.composing.proofs.read_event.Statement.{statement}
+use Rattle.composing.proofs.read_event.Tie as tie
+
+pub read-event-spec : {M : Type 1} → statement M
+read-event-spec =
+    tie.close
+    (tie.spec
+    (λ c κs. search needs)
+    (λ c. search (event-short, needs))
+    (λ c. search (part-length, needs))
+    (λ c κs. search needs)
+    (λ c. search needs)
+    (λ c. search needs)
+    (λ c. search (event-large, needs))
+    (λ c. search needs)
+    (λ c. search needs)
+    (λ c. search needs)
+    (λ c. search needs)
+    (λ c. search needs)
+    (λ c κs. search needs)
+    (λ c. search (event-number, needs))
+    (λ c. search (event-read, needs)))

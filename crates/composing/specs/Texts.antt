@@ -1,0 +1,68 @@
+-- What reading a text gives.
+use Prim.Native.Nat.{ℕ, _-_, _≤_}
+use mathlib.Core.Path.{_≡_}
+use mathlib.Core.Bool.{true, cond}
+use mathlib.Core.List.{List, [], _∷_, _++_, map, List·Memᴰ}
+use lib.ListN.{length, take}
+use lib.Dec.{eqb}
+use Rattle.model.specs.Trace.{Event, Trace}
+use Rattle.preambles.specs.Readable.{lineFeed}
+use Rattle.appending.specs.Appended.{Appends}
+use Rattle.composing.specs.Lines.{isPrintable, noteLine, eventLine, InRange}
+use Rattle.composing.specs.declared.Text.{Text}
+use Rattle.composing.specs.declared.Text.the-variants.{Bad, Good}
+
+-- ---- the lines of a text
+
+-- a byte at the front of the first line
+abbrev pub extend : ℕ → List (List ℕ) → List (List ℕ)
+extend b [] = (b ∷ []) ∷ []
+extend b (l ∷ ls) = (b ∷ l) ∷ ls
+
+-- a line feed ends a line, and any other byte is the first of a line; what follows the last line feed is a line where it has a byte
+unfoldable pub lines : List ℕ → List (List ℕ)
+lines [] = []
+lines (b ∷ s) = cond (eqb b lineFeed) ([] ∷ lines s) (extend b (lines s))
+
+-- ---- what a text says
+
+-- texts with a line feed between them
+unfoldable pub joined : List (List ℕ) → List ℕ
+joined [] = []
+joined (t ∷ []) = t
+joined (t ∷ u ∷ l) = t ++ (lineFeed ∷ joined (u ∷ l))
+
+-- lines that make a recording: note lines of these texts, then the lines of these events
+pub record Makes (ls : List (List ℕ)) (notes : List (List ℕ)) (es : Trace) : Type 0 where
+  pub these : ls ≡ map noteLine notes ++ map eventLine es
+  pub printable : (t : List ℕ) → List·Memᴰ t notes → isPrintable t ≡ true
+  pub in-range : (e : Event) → List·Memᴰ e es → InRange e
+
+-- the events stand in the front of the three lists, and the rest of each is as it was
+pub record Listed (es : Trace) (th th′ ki ki′ ob ob′ : List ℕ) (n : ℕ) : Type 0 where
+  pub threads : Appends (map (λ (e : Event). e .thread) es) 0 th th′ n
+  pub kinds : Appends (map (λ (e : Event). e .kind) es) 0 ki ki′ n
+  pub objects : Appends (map (λ (e : Event). e .object) es) 0 ob ob′ n
+
+-- line n is the first bad line: the lines before it make a recording, and with it they do not
+pub record FirstBad (text : List ℕ) (n : ℕ) : Type 0 where
+  pub notes : List (List ℕ)
+  pub es : Trace
+  pub least : 1 ≤ n
+  pub most : n ≤ length (lines text)
+  pub before : Makes (take (n - 1) (lines text)) notes es
+  pub none : (other : List (List ℕ)) (more : Trace) → ¬ Makes (take n (lines text)) other more
+
+-- what each answer means: the lines make a recording, whose preamble and events stand in the front of what is lent, the rest of which is as it was;
+-- or there is a first bad line, and nothing is said of what is lent
+pub data ReadsText (text pre pre′ th th′ ki ki′ ob ob′ : List ℕ) : Text → Type 0 where
+  good : {notes : List (List ℕ)} {es : Trace} {a p n : ℕ} → Makes (lines text) notes es → a ≡ length notes → n ≡ length es
+      → Appends (joined notes) 0 pre pre′ p → Listed es th th′ ki ki′ ob ob′ n → ReadsText text pre pre′ th th′ ki ki′ ob ob′ (Good a p n)
+  bad-line : {n : ℕ} → FirstBad text n → ReadsText text pre pre′ th th′ ki ki′ ob ob′ (Bad n)
+
+-- what is lent is as long as the text, which is longer than any preamble and any list of events in it
+pub record Lent (text pre th ki ob : List ℕ) : Type 0 where
+  pub preamble : length text ≤ length pre
+  pub threads : length text ≤ length th
+  pub kinds : length text ≤ length ki
+  pub objects : length text ≤ length ob
