@@ -1,0 +1,2 @@
+-- The ways through the program
+pub mod ComposeLaws

@@ -1,0 +1,2 @@
+-- What a text makes
+pub mod Composed
