@@ -1,17 +1,16 @@
--- The first place of a byte, and printable bytes.
+-- The first place of a byte.
 use Prim.Native.Nat.{ℕ, suc, _+_, _-_, _≤_, _<_}
 use native.Mathlib.Omega.{arith}
 use native.Mathlib.Numerals.{add-one}
 use mathlib.Core.Path.{_≡_, refl}
 use mathlib.Core.Logic.{_≢_}
-use mathlib.Core.Bool.{true, false}
+use mathlib.Core.Bool.{false}
 use mathlib.Core.List.{List, [], _∷_, _++_, List·Memᴰ, List·Memᴰ·head, List·Memᴰ·tail}
 use lib.ListN.{length, getD, take, drop, length-drop, drop-of-length-le}
 use lib.Seq.{drop-cons, split-at, take-all}
 use lib.Dec.{eqb}
-use borrow.Author.Tests.{eq-eqb, ne-eqb, eqb-true, le-leb, lt-leb}
+use borrow.Author.Tests.{eq-eqb, ne-eqb, eqb-true}
 use Rattle.model.proofs.Tests.{by-cases}
-use Rattle.composing.specs.Lines.{isPrintable}
 use Rattle.composing.specs.Parts.{firstAt}
 
 -- what the code lends of a list from a place on
@@ -69,20 +68,3 @@ pub first-split : (stop : ℕ) (s : List ℕ) (i : ℕ) → i ≡ firstAt stop s
 first-split stop s i e h =
     let g : getD s i 0 ≡ stop = rw e (first-stops stop s (omega arith)) in
     rw (add-one i) (rw g at (split-at s i 0 h))
-
--- ---- the loop over printable bytes
-
-module _ (s : List ℕ) (i : ℕ) (inv : isPrintable s ≡ isPrintable (drop i s)) where
-  module _ (h : i < length s) where
-    pub too-low : getD s i 0 < 32 → false ≡ isPrintable s
-    too-low l = rw (inv, drop-cons s i 0 h, lt-leb 32 (getD s i 0) l)
-
-    module _ (low : 32 ≤ getD s i 0) where
-      pub too-high : 126 < getD s i 0 → false ≡ isPrintable s
-      too-high l = rw (inv, drop-cons s i 0 h, le-leb 32 (getD s i 0) low, lt-leb (getD s i 0) 126 l)
-
-      pub printable-on : getD s i 0 ≤ 126 → isPrintable s ≡ isPrintable (drop (i + 1) s)
-      printable-on l = rw (inv, drop-cons s i 0 h, le-leb 32 (getD s i 0) low, le-leb (getD s i 0) 126 l, add-one i)
-
-  pub all-printable : length s ≤ i → true ≡ isPrintable s
-  all-printable h = rw (inv, drop-of-length-le s h)

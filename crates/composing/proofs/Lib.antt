@@ -10,5 +10,6 @@ pub mod LinesLaws
 pub mod TextLaws
 -- What an answer says to a caller
 pub mod AnswerLaws
--- A line and a text have one answer
+-- A line and a text have one answer, and a text's preamble is readable
 pub mod OneAnswer
+pub mod NoteReadable

@@ -14,7 +14,8 @@ use Rattle.model.proofs.Tests.{by-cases, clash}
 use Rattle.model.specs.Trace.{Event, read, write, acquire, release}
 use Rattle.appending.specs.Decimal.{decimal, valueFrom, InDecimal}
 use Rattle.appending.proofs.DecimalLaws.{decimal-value, decimal-in}
-use Rattle.composing.specs.Lines.{noteWord, readWord, writeWord, acquireWord, releaseWord, word, isPrintable, noteLine, IsNote, eventLine, IsEvent, Reads, note, event, bad}
+use Rattle.preambles.specs.Readable.{isReadable}
+use Rattle.composing.specs.Lines.{noteWord, readWord, writeWord, acquireWord, releaseWord, word, noteLine, IsNote, eventLine, IsEvent, Reads, note, event, bad}
 use Rattle.composing.specs.Parts.{SaysNote, is-note, no-note, firstAt, ReadsNumber, ReadsKind, kind, no-kind, IsAction, ReadsAction, action, no-action, ReadsEvent, is-event, no-event}
 use Rattle.composing.specs.declared.Line.{Line}
 use Rattle.composing.specs.declared.Line.the-variants.{Bad, Note, Event as EventOf}
@@ -191,12 +192,12 @@ module _ (line : List ℕ) where
     pub note-word : (take 5 line ≡ noteWord → a ≡ true) → not a ≡ true → SaysNote line false
     note-word f h = no-note (λ n. clash (f (ap (take 5) (n .these))) (not-true a h))
 
-    pub note-read : (a ≡ true → take 5 line ≡ noteWord) → not a ≡ false → (r : Bool) → r ≡ isPrintable (from 5 line) → SaysNote line r
-    note-read f h r e = go r (e ∙ ap isPrintable (from-drop 5 line))
+    pub note-read : (a ≡ true → take 5 line ≡ noteWord) → not a ≡ false → (r : Bool) → r ≡ isReadable (from 5 line) → SaysNote line r
+    note-read f h r e = go r (e ∙ ap isReadable (from-drop 5 line))
       where
-        go : (r : Bool) → r ≡ isPrintable (drop 5 line) → SaysNote line r
-        go true e = is-note (record { text = drop 5 line; printable = sym e; these = sym (take-append-drop 5 line) ∙ ap (λ (w : List ℕ). w ++ drop 5 line) (f (not-false a h)) })
-        go false e = no-note (λ n. clash (rw (n .these) (n .printable)) (sym e))
+        go : (r : Bool) → r ≡ isReadable (drop 5 line) → SaysNote line r
+        go true e = is-note (record { text = drop 5 line; readable = sym e; these = sym (take-append-drop 5 line) ∙ ap (λ (w : List ℕ). w ++ drop 5 line) (f (not-false a h)) })
+        go false e = no-note (λ n. clash (rw (n .these) (n .readable)) (sym e))
 
 -- ---- a line
 

@@ -116,7 +116,7 @@ makes-front : (n : ℕ) {ls notes : List (List ℕ)} {es : Trace} → Makes ls n
 makes-front n {ls} {notes} {es} m =
     record {
       these = ap (take n) (m .these) ∙ front-lines n notes es;
-      printable = λ t i. m .printable t (take-in n notes t i);
+      readable = λ t i. m .readable t (take-in n notes t i);
       in-range = λ e i. m .in-range e (take-in (n - length notes) es e i);
     }
 

@@ -15,7 +15,8 @@ use Rattle.model.proofs.Tests.{by-cases}
 use Rattle.model.specs.Trace.{Event, Trace}
 use Rattle.appending.specs.Appended.{Appends}
 use Rattle.appending.proofs.AppendLaws.{appends-nothing, appends-byte, appends-then}
-use Rattle.composing.specs.Lines.{isPrintable, noteLine, IsNote, eventLine, InRange, IsEvent, Reads}
+use Rattle.preambles.specs.Readable.{isReadable}
+use Rattle.composing.specs.Lines.{noteLine, IsNote, eventLine, InRange, IsEvent, Reads}
 use Rattle.composing.specs.Texts.{lines, joined, Makes, Listed, ReadsText, good, bad-line}
 use Rattle.composing.specs.Parts.{SaysNote, NextLine, noteBytes, NotesRead, NotesUpTo, ListsLent, EventsRead, ReadsEvents, all, stopped}
 use Rattle.composing.specs.declared.Line.{Line}
@@ -76,7 +77,7 @@ notes-start text pre =
     record {
       notes = [];
       these = refl;
-      printable = λ t m. absurd (List·Memᴰ·not-nil m);
+      readable = λ t m. absurd (List·Memᴰ·not-nil m);
       number = refl;
       put = appends-nothing 0 pre (omega arith);
       within = omega arith;
@@ -132,7 +133,7 @@ module _ {text pre₀ pre : List ℕ} {n p at : ℕ} (r : NotesRead text pre₀ 
           record {
             notes = r .notes ++ (is-note .text ∷ []);
             these = lines-more noteLine (lines text) (r .notes) (lines (drop at text)) (lines (drop next text)) (take (end - at) (drop at text)) (is-note .text) (r .these) (l .splits) (is-note .these);
-            printable = all-more (λ (t : List ℕ). isPrintable t ≡ true) (r .notes) (is-note .text) (r .printable) (is-note .printable);
+            readable = all-more (λ (t : List ℕ). isReadable t ≡ true) (r .notes) (is-note .text) (r .readable) (is-note .readable);
             number = let m = length-more (r .notes) (is-note .text) in let k = r .number in omega arith;
             put = c .0;
             within = l .within;
@@ -217,7 +218,7 @@ module _ (front : List (List ℕ)) (l : List ℕ) (no-event : (e : Event) → ¬
       let e : front ++ (l ∷ []) ≡ map noteLine notes = m .these ∙ append-nil (map noteLine notes) in
       let i : List·Memᴰ f (map noteLine notes) = rw e at there in
       let r = map-in noteLine notes f i in
-      no-note (record { text = r .0; printable = m .printable (r .0) (r .1); these = r .2 })
+      no-note (record { text = r .0; readable = m .readable (r .0) (r .1); these = r .2 })
   makes-none notes (e ∷ es) m =
       let r = map-in eventLine (e ∷ es) l (last-in front l (map noteLine notes) (eventLine e) (map eventLine es) (m .these)) in
       no-event (r .0) (record { in-range = m .in-range (r .0) (r .1); these = r .2 })
@@ -230,7 +231,7 @@ module _ {text pre pre′ : List ℕ} {a p end : ℕ} (r : NotesUpTo text pre pr
       let q : m ≡ n = cc in
       let z = lines-none text at h in
       let w : lines text ≡ map noteLine (r .read .notes) ++ map eventLine (s .es) = r .read .these ∙ rw (s .these, z, append-nil) in
-      good (record { these = w; printable = r .read .printable; in-range = s .in-range }) (r .read .number) (sym q ∙ s .number) (r .read .put) (rw q at (s .put))
+      good (record { these = w; readable = r .read .readable; in-range = s .in-range }) (r .read .number) (sym q ∙ s .number) (r .read .put) (rw q at (s .put))
   text-good (stopped s h g f) n e = let o : _≡_ {A = ℕ} 0 1 = cc in absurd (omega arith)
 
   -- the line at which the events stop
@@ -276,7 +277,7 @@ module _ {text pre pre′ : List ℕ} {a p end : ℕ} (r : NotesUpTo text pre pr
           es = s .es;
           least = omega arith;
           most = omega arith;
-          before = record { these = t; printable = r .read .printable; in-range = s .in-range };
+          before = record { these = t; readable = r .read .readable; in-range = s .in-range };
           none = λ notes es x. makes-none front l f (m .0) (m .1) (m .2) notes es (rw u at x);
         })
 

@@ -1,11 +1,11 @@
 -- The lines of a text that a recording is made of, as bytes, and what reading one gives.
 use Prim.Native.Nat.{ℕ, _≤_, _<_}
 use mathlib.Core.Path.{_≡_}
-use mathlib.Core.Bool.{Bool, true, cond, _&&_}
+use mathlib.Core.Bool.{true, cond}
 use mathlib.Core.List.{List, [], _∷_, _++_}
-use lib.Dec.{eqb, leb}
+use lib.Dec.{eqb}
 use Rattle.model.specs.Trace.{Event, read, write, acquire, release}
-use Rattle.preambles.specs.Readable.{lowestByte, highestByte}
+use Rattle.preambles.specs.Readable.{isReadable}
 use Rattle.appending.specs.Decimal.{decimal}
 use Rattle.composing.specs.declared.Line.{Line}
 use Rattle.composing.specs.declared.Line.the-variants.{Bad, Note, Event as EventOf}
@@ -38,19 +38,14 @@ word k = cond (eqb k read) readWord (cond (eqb k write) writeWord (cond (eqb k a
 
 -- ---- note lines
 
--- are all bytes those that a preamble may hold, other than the line feed?
-abbrev pub isPrintable : List ℕ → Bool
-isPrintable [] = true
-isPrintable (b ∷ s) = leb lowestByte b && (leb b highestByte && isPrintable s)
-
 -- a text after the word
 abbrev pub noteLine : List ℕ → List ℕ
 noteLine text = noteWord ++ text
 
--- the line of a text of printable bytes
+-- the line of a text whose bytes a preamble may hold; a line has no line feed, so they are 20 to 7E hex
 pub record IsNote (line : List ℕ) : Type 0 where
   pub text : List ℕ
-  pub printable : isPrintable text ≡ true
+  pub readable : isReadable text ≡ true
   pub these : line ≡ noteLine text
 
 -- ---- event lines

@@ -6,9 +6,9 @@ use mathlib.Core.List.{List, [], _∷_, _++_, map, List·Memᴰ}
 use lib.ListN.{length, take}
 use lib.Dec.{eqb}
 use Rattle.model.specs.Trace.{Event, Trace}
-use Rattle.preambles.specs.Readable.{lineFeed}
+use Rattle.preambles.specs.Readable.{lineFeed, isReadable}
 use Rattle.appending.specs.Appended.{Appends}
-use Rattle.composing.specs.Lines.{isPrintable, noteLine, eventLine, InRange}
+use Rattle.composing.specs.Lines.{noteLine, eventLine, InRange}
 use Rattle.composing.specs.declared.Text.{Text}
 use Rattle.composing.specs.declared.Text.the-variants.{Bad, Good}
 
@@ -35,7 +35,7 @@ joined (t ∷ u ∷ l) = t ++ (lineFeed ∷ joined (u ∷ l))
 -- lines that make a recording: note lines of these texts, then the lines of these events
 pub record Makes (ls : List (List ℕ)) (notes : List (List ℕ)) (es : Trace) : Type 0 where
   pub these : ls ≡ map noteLine notes ++ map eventLine es
-  pub printable : (t : List ℕ) → List·Memᴰ t notes → isPrintable t ≡ true
+  pub readable : (t : List ℕ) → List·Memᴰ t notes → isReadable t ≡ true
   pub in-range : (e : Event) → List·Memᴰ e es → InRange e
 
 -- the events stand in the front of the three lists, and the rest of each is as it was

@@ -4,7 +4,7 @@ use preambles::NoteByte;
 ghost use mathlib.Core.Path.{_≡_};
 ghost use Prim.Native.Nat.{_+_, _≤_, _<_};
 ghost use lib.ListN.{length};
-ghost use Rattle.composing.specs.Lines.{isPrintable, Reads};
+ghost use Rattle.composing.specs.Lines.{Reads};
 ghost use Rattle.composing.specs.Texts.{Lent, ReadsText};
 ghost use Rattle.composing.specs.Parts.{noteBytes, NextLine, NotesUpTo, ListsLent, ReadsEvents, SaysNote, firstAt, digitsFrom, ReadsNumber, ReadsKind, ReadsAction, ReadsEvent};
 ghost use Rattle.appending.specs.Appended.{Appends};
@@ -71,23 +71,6 @@ fn first_at(s: &[u8], stop: u8) -> usize
 
 // ---- a line
 
-// Are all bytes printable?
-fn printable(s: &[u8]) -> bool
-    ensures { λ r. ⌜ r ≡ isPrintable (now (s .entry)) ⌝ }
-{
-    let mut i = 0;
-    while i < s.len() {
-        if s[i] < NoteByte::LOWEST {
-            return false;
-        }
-        if NoteByte::HIGHEST < s[i] {
-            return false;
-        }
-        i += 1;
-    }
-    true
-}
-
 fn is_note(line: &[u8]) -> bool
     ensures { λ r. ⌜ SaysNote (now (line .entry)) r ⌝ }
 {
@@ -97,7 +80,7 @@ fn is_note(line: &[u8]) -> bool
     if !check::same(&line[..NOTE_BYTES], b"note ") {
         return false;
     }
-    printable(&line[NOTE_BYTES..])
+    preambles::readable(&line[NOTE_BYTES..])
 }
 
 // The number that digits stand for.

@@ -123,6 +123,7 @@ pub enum Refusal {
     Object(u16),
     LockHeld(u16),
     NotHolder(u16),
+    // what question 3 or the writer is lent: a list, a buffer
     ListShort,
     NotConflicting,
     AreaShort,
