@@ -3,22 +3,23 @@ use Prim.Native.Nat.{ℕ, _-_, _≤_}
 use native.Mathlib.Omega.{arith}
 use mathlib.Core.Path.{_≡_, refl, sym, _∙_, ap}
 use mathlib.Core.Option.{Option, none, some}
-use mathlib.Core.List.{List, [], _∷_, map}
-use lib.ListN.{length, take, drop, length-append, length-map}
+use mathlib.Core.List.{List}
+use lib.ListN.{length, take, drop, length-append}
 use lib.Dec.{leb}
-use borrow.Author.Tests.{eq-eqb}
-use Rattle.model.specs.Trace.{Event, Trace}
+use Rattle.model.specs.Trace.{Trace}
 use Rattle.limits.specs.Limits.{eventBytes}
 use Rattle.limits.specs.declared.Refusal.{Refusal}
 use Rattle.limits.specs.declared.Refusal.the-variants.{ListShort}
 use Rattle.judging.specs.Judged.{orElse, unless, fileRefusal}
 use Rattle.appending.specs.Appended.{Appends}
-use Rattle.layout.specs.Written.{written, traceFrom}
+use Rattle.layout.specs.Written.{written, threadList, kindList, objectList}
+use Rattle.layout.proofs.ListLaws.{lists-back, lists-even}
 use Rattle.composing.specs.Texts.{lines, joined, Makes, ReadsText, good, bad-line as bad-text}
 use Rattle.composing.specs.declared.Text.{Text}
 use Rattle.composing.specs.declared.Text.the-variants.{Bad, Good}
 use Rattle.composing.proofs.AnswerLaws.{makes-few}
-use Rattle.writing.specs.Writing.{isEven, writtenBy, handed, answerWrite}
+use Rattle.writing.proofs.WriteLaws.{true-even}
+use Rattle.writing.specs.Writing.{writtenBy, handed, answerWrite}
 use Rattle.writing.specs.declared.Written.{Written}
 use Rattle.writing.specs.declared.Written.the-variants.{Refused as NotWritten, Bytes}
 use Rattle.compose.specs.Composed.{recorded, Composes, bad-line, refused, recording, WritesParts, not-written, parts-written}
@@ -36,20 +37,9 @@ module _ (a : ℕ) (p threads kinds objects file file′ : List ℕ) (w : Writte
 
 -- ---- the parts of a text
 
--- the lists of events are of one length, and have these events
-lists-trace : (es : Trace) → traceFrom (map (λ (e : Event). e .thread) es) (map (λ (e : Event). e .kind) es) (map (λ (e : Event). e .object) es) ≡ es
-unfolding traceFrom
-lists-trace [] = refl
-lists-trace (e ∷ es) = ap (λ (t : Trace). e ∷ t) (lists-trace es)
-
-answer-recorded : (p : List ℕ) (es : Trace) (file : List ℕ)
-    → answerWrite p (map (λ (e : Event). e .thread) es) (map (λ (e : Event). e .kind) es) (map (λ (e : Event). e .object) es) file ≡ recorded p es file
-unfolding answerWrite isEven
-answer-recorded p es file =
-    let t = length-map es (λ (e : Event). e .thread) in
-    let k = length-map es (λ (e : Event). e .kind) in
-    let o = length-map es (λ (e : Event). e .object) in
-    rw (eq-eqb _ _ (k ∙ sym t), eq-eqb _ _ (o ∙ sym t), lists-trace es)
+answer-recorded : (p : List ℕ) (es : Trace) (file : List ℕ) → answerWrite p (threadList es) (kindList es) (objectList es) file ≡ recorded p es file
+unfolding answerWrite
+answer-recorded p es file = rw (true-even (threadList es) (kindList es) (objectList es) (lists-even es), lists-back es)
 
 -- what the program hands on of what is lent
 abbrev part : ℕ → List ℕ → List ℕ
@@ -60,7 +50,7 @@ part-put {n = n} a = let z : n - 0 ≡ n = omega arith in rw z (a .front)
 
 parts-mean : {text : List ℕ} {notes : List (List ℕ)} {es : Trace} {a : ℕ} → Makes (lines text) notes es → a ≡ length notes
     → {p threads kinds objects file file′ : List ℕ} {c : Composed} → WritesParts a p threads kinds objects file file′ c
-    → p ≡ joined notes → threads ≡ map (λ (e : Event). e .thread) es → kinds ≡ map (λ (e : Event). e .kind) es → objects ≡ map (λ (e : Event). e .object) es → Composes text file file′ c
+    → p ≡ joined notes → threads ≡ threadList es → kinds ≡ kindList es → objects ≡ objectList es → Composes text file file′ c
 parts-mean {es = es} m ea {file = file} (not-written q) f t k o = refused m ea (rw (f, t, k, o) at q ∙ answer-recorded _ es file)
 parts-mean {es = es} m ea {file = file} (parts-written q) f t k o = recording m (rw (f, t, k, o) at q ∙ answer-recorded _ es file)
 

@@ -4,9 +4,9 @@ use native.Mathlib.Omega.{arith}
 use native.Mathlib.Nat.{mul-suc, mul-zero}
 use mathlib.Core.Path.{_≡_, refl, sym, _∙_, ap}
 use mathlib.Core.List.{List, [], _∷_, _++_, append-assoc}
-use lib.ListN.{length, getD, length-append, length-replicate}
+use lib.ListN.{length, getD, length-append, length-replicate, length-map}
 use Rattle.model.specs.Trace.{Event, Trace, noEvent}
-use Rattle.layout.specs.Written.{writtenEvent, writtenEvents, traceFrom, Even}
+use Rattle.layout.specs.Written.{writtenEvent, writtenEvents, traceFrom, threadList, kindList, objectList, Even}
 
 -- ---- the events of three lists
 
@@ -28,6 +28,15 @@ from-at (c ∷ cs) [] xs e i h = absurd (let a = e .kinds-too in omega arith)
 from-at (c ∷ cs) (d ∷ ds) [] e i h = absurd (let a = e .objects-too in omega arith)
 from-at (c ∷ cs) (d ∷ ds) (x ∷ xs) e zero h = refl
 from-at (c ∷ cs) (d ∷ ds) (x ∷ xs) e (suc i) h = from-at cs ds xs (even-rest c d x cs ds xs e) i (omega arith)
+
+-- the lists of a trace have its events
+pub lists-back : (t : Trace) → traceFrom (threadList t) (kindList t) (objectList t) ≡ t
+unfolding traceFrom
+lists-back [] = refl
+lists-back (e ∷ t) = ap (λ (u : Trace). e ∷ u) (lists-back t)
+
+pub lists-even : (t : Trace) → Even (threadList t) (kindList t) (objectList t)
+lists-even t = record { kinds-too = rw (length-map, length-map); objects-too = rw (length-map, length-map) }
 
 -- ---- their bytes
 

@@ -4,8 +4,8 @@ use native.Mathlib.Omega.{arith}
 use mathlib.Core.Path.{_≡_, refl, sym, _∙_, ap}
 use mathlib.Core.Logic.{_≢_}
 use mathlib.Core.Option.{none}
-use mathlib.Core.List.{List, [], _∷_}
-use lib.ListN.{length, take, drop, length-map}
+use mathlib.Core.List.{List, []}
+use lib.ListN.{length, take, drop}
 use lib.Seq.{take-append-seam}
 use Rattle.model.specs.Trace.{Trace}
 use Rattle.limits.specs.Limits.{eventBytes}
@@ -16,7 +16,8 @@ use Rattle.judging.specs.Judged.{GoodFile}
 use Rattle.judging.proofs.FileLaws.{meaning}
 use Rattle.noting.specs.Note.{Slice, ownNote, own-note, lent-note, answerNote}
 use Rattle.noting.proofs.NoteExact.{note-exactly}
-use Rattle.layout.specs.Written.{written, traceFrom, Even}
+use Rattle.layout.specs.Written.{written, traceFrom, threadList, kindList, objectList}
+use Rattle.layout.proofs.ListLaws.{lists-back, lists-even}
 use Rattle.layout.proofs.ReadsBack.{reads-back}
 use Rattle.layout.proofs.WritesAgain.{writes-again, plain-today}
 use Rattle.writing.specs.Writing.{fileFrom, holding, Writes, uneven, not-read, buffer-short, wrote}
@@ -24,7 +25,7 @@ use Rattle.writing.proofs.WrittenExact.{write-exactly}
 use Rattle.writing.specs.declared.Written.{Written}
 use Rattle.writing.specs.declared.Written.the-variants.{Refused, Bytes}
 use Rattle.questions.specs.Answers.{answerJudge}
-use Rattle.questions.specs.RoundTrips.{AnswersFor, WhatIsWritten, threadList, kindList, objectList, WhatIsRead}
+use Rattle.questions.specs.RoundTrips.{AnswersFor, WhatIsWritten, WhatIsRead}
 
 -- ---- what is written
 
@@ -67,18 +68,12 @@ what-is-written p cs ds xs buffer n after e = front-is p cs ds xs buffer n after
 
 -- ---- what is read
 
-lists-of : (t : Trace) → traceFrom (threadList t) (kindList t) (objectList t) ≡ t
-unfolding traceFrom
-lists-of [] = refl
-lists-of (e ∷ t) = ap (λ (u : Trace). e ∷ u) (lists-of t)
-
 -- the second round trip
 pub what-is-read : WhatIsRead
 what-is-read s bytes g buffer h =
     let t = events eventBytes s in
-    let v : Even (threadList t) (kindList t) (objectList t) = record { kinds-too = rw (length-map, length-map); objects-too = rw (length-map, length-map) } in
     let d : fileFrom (preamble s) (threadList t) (kindList t) (objectList t) ≡ s =
-    ap (written eventBytes (preamble s)) (lists-of t) ∙ writes-again eventBytes (omega arith) s bytes (g .layout) (plain-today s) in
+    ap (written eventBytes (preamble s)) (lists-back t) ∙ writes-again eventBytes (omega arith) s bytes (g .layout) (plain-today s) in
     let f = fileFrom (preamble s) (threadList t) (kindList t) (objectList t) in
-    let w : Writes (preamble s) (threadList t) (kindList t) (objectList t) buffer (Bytes (length f), holding f buffer) = wrote v (rw d g) (rw d h) in
+    let w : Writes (preamble s) (threadList t) (kindList t) (objectList t) buffer (Bytes (length f), holding f buffer) = wrote (lists-even t) (rw d g) (rw d h) in
     write-exactly (preamble s) (threadList t) (kindList t) (objectList t) buffer (Bytes (length s), holding s buffer) .1 (rw d at w)

@@ -2,15 +2,15 @@
 use Prim.Native.Nat.{ℕ, _≤_}
 use mathlib.Core.Path.{_≡_}
 use mathlib.Core.Logic.{_≢_}
-use mathlib.Core.List.{List, [], map}
+use mathlib.Core.List.{List, []}
 use lib.ListN.{length, take}
-use Rattle.model.specs.Trace.{Event, Trace}
+use Rattle.model.specs.Trace.{Trace}
 use Rattle.model.specs.Lists.{threads}
 use Rattle.limits.specs.Limits.{eventBytes}
 use Rattle.format.specs.Layout.{preamble, events}
 use Rattle.judging.specs.Judged.{GoodFile}
 use Rattle.noting.specs.Note.{Slice, whole, answerNote}
-use Rattle.layout.specs.Written.{traceFrom}
+use Rattle.layout.specs.Written.{traceFrom, threadList, kindList, objectList}
 use Rattle.layout.specs.RoundTrip.{ReadsAs, AllBytes}
 use Rattle.writing.specs.Writing.{holding, answerWrite}
 use Rattle.writing.specs.declared.Written.{Written}
@@ -31,16 +31,6 @@ pub record AnswersFor (s p : List ℕ) (t : Trace) : Type 0 where
 abbrev pub WhatIsWritten : Type 0
 WhatIsWritten =
     (p cs ds xs buffer : List ℕ) (n : ℕ) (after : List ℕ) → answerWrite p cs ds xs buffer ≡ (Bytes n, after) → AnswersFor (take n after) p (traceFrom cs ds xs)
-
--- the threads, kinds and objects of a trace's events, as the writer takes them
-abbrev pub threadList : Trace → List ℕ
-threadList t = map (λ (e : Event). e .thread) t
-
-abbrev pub kindList : Trace → List ℕ
-kindList t = map (λ (e : Event). e .kind) t
-
-abbrev pub objectList : Trace → List ℕ
-objectList t = map (λ (e : Event). e .object) t
 
 -- the writer with what was read of a file s
 abbrev pub writtenAgain : List ℕ → List ℕ → Written × List ℕ
