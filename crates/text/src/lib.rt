@@ -132,6 +132,37 @@ pub fn numbers(line: &[u8], list: &mut [u16]) -> usize
     m
 }
 
+// ---- counting
+
+pub fn at_most(n: usize, most: usize) -> usize
+    ensures { λ r. ⌜ r ≤ most ⌝ }
+{
+    if most < n {
+        return most;
+    }
+    n
+}
+
+pub fn one(b: bool) -> u64
+    ensures { λ r. ⌜ r ≤ 1 ⌝ }
+{
+    if b {
+        return 1;
+    }
+    0
+}
+
+// How many bytes hold b.
+pub fn bytes_with(bytes: &[u8], b: u8) -> u64 {
+    let mut n = 0u64;
+    let mut i = 0;
+    while i < bytes.len() {
+        n += one(bytes[i] == b);
+        i += 1;
+    }
+    n
+}
+
 // ---- what is written
 
 pub fn word(text: &[u8]) {

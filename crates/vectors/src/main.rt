@@ -18,7 +18,7 @@ fn ask(line: &[u8], file: &[u8]) {
     let n = text::numbers(line, &mut numbers);
     let a = numbers[1];
     let b = numbers[2];
-    let start = answers::at_most(3, n);
+    let start = text::at_most(3, n);
     match numbers[0] {
         2 => answers::observed(file, a),
         3 => answers::ask_verdict(file, a, b, numbers[3], text::decimal(line)),
@@ -51,7 +51,7 @@ fn answer(line: &[u8], file: &mut [u8], n: usize) -> usize
         return n;
     }
     if kind == b'!' {
-        answers::ask_writer(line);
+        handing::ask_writer(line);
         return n;
     }
     let m = text::bytes(line, file);

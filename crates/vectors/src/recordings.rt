@@ -45,7 +45,7 @@ fn observed_all(file: &[u8], n: u16) {
 fn shown(file: &[u8], a: u16, b: u16, list: &[u16], n: u16) {
     text::list(list, n);
     byte(b' ');
-    let end = answers::at_most(n as usize, list.len());
+    let end = text::at_most(n as usize, list.len());
     answers::check(file, a, b, &list[0..end]);
 }
 

@@ -2,8 +2,8 @@ use Prim.Native.Nat.{_-_, _≤_}
 use mathlib.Core.Path.{_≡_}
 use lib.ListN.{length}
 use borrow.Author.Needs.{needs}
-use Rattle.answers.proofs.column.Statement.{statement}
-use Rattle.answers.proofs.column.Tie as tie
+use Rattle.handing.proofs.column.Statement.{statement}
+use Rattle.handing.proofs.column.Tie as tie
 
 abbrev Inv-loop : tie.InvT-loop
 Inv-loop events from list₀ i₀ i-end list i = (length list ≡ length list₀) × (i ≤ length list₀)

@@ -1,8 +1,8 @@
 use borrow.Author.Needs.{needs}
 use Prim.Native.Nat.{_≤_, _-_}
 use lib.ListN.{length}
-use Rattle.answers.proofs.bytes_with.Statement.{statement}
-use Rattle.answers.proofs.bytes_with.Tie as tie
+use Rattle.text.proofs.bytes_with.Statement.{statement}
+use Rattle.text.proofs.bytes_with.Tie as tie
 
 abbrev Inv-loop : tie.InvT-loop
 Inv-loop bytes b n₀ i₀ n i = (n ≤ i) × (i ≤ length bytes)
