@@ -1,6 +1,7 @@
 //! An independent exhaustive program: it answers the six questions of paper 01 and the writer's of
 //! request One by the published definitions alone, by listing and comparing, and writes down what
-//! it found as vectors.
+//! it found as vectors. Two things are choices of this project: what lists of different lengths
+//! get, and the form of a text.
 
 mod askings;
 mod book;

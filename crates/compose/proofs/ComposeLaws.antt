@@ -6,13 +6,13 @@ use mathlib.Core.Option.{Option, none, some}
 use mathlib.Core.List.{List}
 use lib.ListN.{length, take, drop, length-append}
 use lib.Dec.{leb}
-use Rattle.model.specs.Trace.{Trace}
+use Rattle.model.specs.Trace.{Trace, threadList, kindList, objectList}
 use Rattle.limits.specs.Limits.{eventBytes}
 use Rattle.limits.specs.declared.Refusal.{Refusal}
 use Rattle.limits.specs.declared.Refusal.the-variants.{ListShort}
 use Rattle.judging.specs.Judged.{orElse, unless, fileRefusal}
 use Rattle.appending.specs.Appended.{Appends}
-use Rattle.layout.specs.Written.{written, threadList, kindList, objectList}
+use Rattle.layout.specs.Written.{written}
 use Rattle.layout.proofs.ListLaws.{lists-back, lists-even}
 use Rattle.composing.specs.Texts.{lines, joined, Makes, ReadsText, good, bad-line as bad-text}
 use Rattle.composing.specs.declared.Text.{Text}
@@ -57,7 +57,7 @@ parts-mean {es = es} m ea {file = file} (parts-written q) f t k o = recording m 
 module _ {text pre pre′ th th′ ki ki′ ob ob′ : List ℕ} where
   pub compose-bad : {r : Text} → ReadsText text pre pre′ th th′ ki ki′ ob ob′ r → (n : ℕ) → r ≡ Bad n → (file : List ℕ) → Composes text file file (BadLine n)
   compose-bad (good m ea en pr li) n e file = let o : _≡_ {A = ℕ} 0 1 = cc in absurd (omega arith)
-  compose-bad (bad-text {n = k} x) n e file = let q : k ≡ n = cc in bad-line (rw q at x) refl
+  compose-bad (bad-text {n = k} x u v) n e file = let q : k ≡ n = cc in bad-line (rw q at x) refl
 
   pub compose-good : {r : Text} → ReadsText text pre pre′ th th′ ki ki′ ob ob′ r → (a p n : ℕ) → r ≡ Good a p n → {file file′ : List ℕ} {c : Composed}
       → WritesParts a (part p pre′) (part n th′) (part n ki′) (part n ob′) file file′ c → Composes text file file′ c
@@ -66,7 +66,7 @@ module _ {text pre pre′ th th′ ki ki′ ob ob′ : List ℕ} where
       let y : p′ ≡ p = cc in
       let z : n′ ≡ n = cc in
       parts-mean m (sym x ∙ ea) w (part-put (rw y at pr)) (part-put (rw z at (li .threads))) (part-put (rw z at (li .kinds))) (part-put (rw z at (li .objects)))
-  compose-good (bad-text x) a p n e w = let o : _≡_ {A = ℕ} 0 1 = cc in absurd (omega arith)
+  compose-good (bad-text x u v) a p n e w = let o : _≡_ {A = ℕ} 0 1 = cc in absurd (omega arith)
 
 -- ---- what an answer says
 

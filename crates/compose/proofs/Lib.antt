@@ -1,2 +1,4 @@
 -- The ways through the program
 pub mod ComposeLaws
+-- A text has one answer
+pub mod OneAnswer

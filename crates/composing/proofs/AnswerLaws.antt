@@ -49,7 +49,7 @@ module _ {text pre pre′ th th′ ki ki′ ob ob′ : List ℕ} where
       let l = appends-within (li .kinds) in
       let o = appends-within (li .objects) in
       (omega arith, omega arith, omega arith, omega arith)
-  good-parts (bad-line x) a p n e = let o : _≡_ {A = ℕ} 0 1 = cc in absurd (omega arith)
+  good-parts (bad-line x u v) a p n e = let o : _≡_ {A = ℕ} 0 1 = cc in absurd (omega arith)
 
   module _ (r : Text) (x : ReadsText text pre pre′ th th′ ki ki′ ob ob′ r) (a p n : ℕ) (e : r ≡ Good a p n) where
     pub preamble-within : p ≤ length pre′

@@ -15,6 +15,7 @@ use Rattle.model.specs.Trace.{Event, read, write, acquire, release}
 use Rattle.appending.specs.Decimal.{decimal, valueFrom, InDecimal}
 use Rattle.appending.proofs.DecimalLaws.{decimal-value, decimal-in}
 use Rattle.preambles.specs.Readable.{isReadable}
+use Rattle.preambles.proofs.ReadableExact.{readable-true, true-readable}
 use Rattle.composing.specs.Lines.{noteWord, readWord, writeWord, acquireWord, releaseWord, word, noteLine, IsNote, eventLine, IsEvent, Reads, note, event, bad}
 use Rattle.composing.specs.Parts.{SaysNote, is-note, no-note, firstAt, ReadsNumber, ReadsKind, kind, no-kind, IsAction, ReadsAction, action, no-action, ReadsEvent, is-event, no-event}
 use Rattle.composing.specs.declared.Line.{Line}
@@ -30,22 +31,8 @@ use Rattle.composing.proofs.NumberLaws.{read-value, read-absent, decima
 abbrev pub Same : Bool → List ℕ → List ℕ → Type 0
 Same b s t = (b ≡ true → s ≡ t) × (s ≡ t → b ≡ true)
 
-module _ (w : List ℕ) (a : Bool) where
-  pub kind-read : (a ≡ true → w ≡ readWord) → a ≡ true → ReadsKind w 1
-  unfolding word
-  kind-read f h = kind {k = 1} (omega arith) (omega arith) (f h)
-
-  pub kind-write : (a ≡ true → w ≡ writeWord) → a ≡ true → ReadsKind w 2
-  unfolding word
-  kind-write f h = kind {k = 2} (omega arith) (omega arith) (f h)
-
-  pub kind-acquire : (a ≡ true → w ≡ acquireWord) → a ≡ true → ReadsKind w 3
-  unfolding word
-  kind-acquire f h = kind {k = 3} (omega arith) (omega arith) (f h)
-
-  pub kind-release : (a ≡ true → w ≡ releaseWord) → a ≡ true → ReadsKind w 4
-  unfolding word
-  kind-release f h = kind {k = 4} (omega arith) (omega arith) (f h)
+pub kind-is : (k : ℕ) (w : List ℕ) (a : Bool) → read ≤ k → k ≤ release → (a ≡ true → w ≡ word k) → a ≡ true → ReadsKind w k
+kind-is k w a least most f h = kind least most (f h)
 
 module _ (w : List ℕ) (a b c d : Bool) where
   pub kind-other : Same a w readWord → a ≡ false → Same b w writeWord → b ≡ false → Same c w acquireWord → c ≡ false → Same d w releaseWord → d ≡ false → ReadsKind w 0
@@ -196,8 +183,8 @@ module _ (line : List ℕ) where
     note-read f h r e = go r (e ∙ ap isReadable (from-drop 5 line))
       where
         go : (r : Bool) → r ≡ isReadable (drop 5 line) → SaysNote line r
-        go true e = is-note (record { text = drop 5 line; readable = sym e; these = sym (take-append-drop 5 line) ∙ ap (λ (w : List ℕ). w ++ drop 5 line) (f (not-false a h)) })
-        go false e = no-note (λ n. clash (rw (n .these) (n .readable)) (sym e))
+        go true e = is-note (record { text = drop 5 line; readable = readable-true (drop 5 line) (sym e); these = sym (take-append-drop 5 line) ∙ ap (λ (w : List ℕ). w ++ drop 5 line) (f (not-false a h)) })
+        go false e = no-note (λ n. clash (true-readable (drop 5 line) (rw (n .these) (n .readable))) (sym e))
 
 -- ---- a line
 

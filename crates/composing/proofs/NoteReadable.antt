@@ -6,7 +6,7 @@ use mathlib.Core.List.{List, [], _∷_, _++_, List·Memᴰ, List·Memᴰ·head, 
 use Rattle.model.specs.Trace.{Trace}
 use Rattle.model.proofs.Tests.{both, true-both}
 use Rattle.preambles.specs.Readable.{lineFeed, Readable, isReadableByte, isReadable}
-use Rattle.preambles.proofs.ReadableExact.{readable-true}
+use Rattle.preambles.proofs.ReadableExact.{readable-true, true-readable}
 use Rattle.composing.specs.Texts.{joined, Makes}
 
 then-readable : (s t : List ℕ) → isReadable s ≡ true → isReadable t ≡ true → isReadable (s ++ t) ≡ true
@@ -21,4 +21,4 @@ all-readable (t ∷ []) f = f t (List·Memᴰ·head refl)
 all-readable (t ∷ u ∷ l) f = then-readable t (lineFeed ∷ joined (u ∷ l)) (f t (List·Memᴰ·head refl)) (all-readable (u ∷ l) (λ x m. f x (List·Memᴰ·tail m)))
 
 pub preamble-readable : {ls : List (List ℕ)} {notes : List (List ℕ)} {es : Trace} → Makes ls notes es → Readable (joined notes)
-preamble-readable {notes = notes} m = readable-true (joined notes) (all-readable notes (m .readable))
+preamble-readable {notes = notes} m = readable-true (joined notes) (all-readable notes (λ t i. true-readable t (m .readable t i)))

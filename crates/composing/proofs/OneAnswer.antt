@@ -13,7 +13,7 @@ use Rattle.model.proofs.Tests.{by-cases}
 use Rattle.appending.specs.Decimal.{decimal}
 use Rattle.appending.specs.Appended.{Appends}
 use Rattle.composing.specs.Lines.{word, noteLine, eventLine, InRange, Reads, note, event, bad}
-use Rattle.composing.specs.Texts.{lines, Makes, ReadsText, good, bad-line}
+use Rattle.composing.specs.Texts.{lines, Makes, Listed, FirstBad, ReadsText, good, bad-line, Settled}
 use Rattle.composing.specs.declared.Line.{Line}
 use Rattle.composing.specs.declared.Line.the-variants.{Event as EventOf}
 use Rattle.composing.specs.declared.Text.{Text}
@@ -95,6 +95,9 @@ lines-one (t ∷ notes) (u ∷ more) es fs r s q =
     let c = b .0 in
     (cc, b .1)
 
+pub makes-one : {ls notes more : List (List ℕ)} {es fs : Trace} → Makes ls notes es → Makes ls more fs → (notes ≡ more) × (es ≡ fs)
+makes-one {notes = notes} {more = more} {es = es} {fs = fs} m k = lines-one notes more es fs (m .in-range) (k .in-range) (sym (m .these) ∙ k .these)
+
 -- ---- fewer lines
 
 take-in : {A : Type 0} (n : ℕ) (l : List A) (x : A) → List·Memᴰ x (take n l) → List·Memᴰ x l
@@ -129,14 +132,21 @@ appends-one {put} {out} {a} {b} {r} {s} x y =
     let g : drop r a ≡ drop r b = x .rest ∙ sym (rw (sym e) at (y .rest)) in
     (e, sym (take-append-drop r a) ∙ (rw (f, g) (take-append-drop r b)))
 
--- two answers are one, and where the lines make a recording, what is lent holds the same in the end
-pub record Settled (r s : Text) (pre pre′ th th′ ki ki′ ob ob′ : List ℕ) : Type 0 where
-  pub answer : r ≡ s
-  pub lent : (a p n : ℕ) → r ≡ Good a p n → (pre ≡ pre′) × (th ≡ th′) × (ki ≡ ki′) × (ob ≡ ob′)
+-- the same preamble and events leave one content in what is lent
+same-lent : {put : List ℕ} {es : Trace} {pre pre₁ pre₂ th th₁ th₂ ki ki₁ ki₂ ob ob₁ ob₂ : List ℕ} {p q n m : ℕ} {r s : Text} → r ≡ s
+    → Appends put 0 pre pre₁ p → Appends put 0 pre pre₂ q → Listed es th th₁ ki ki₁ ob ob₁ n → Listed es th th₂ ki ki₂ ob ob₂ m
+    → Settled r s pre₁ pre₂ th₁ th₂ ki₁ ki₂ ob₁ ob₂
+same-lent e a b l k = record {
+  answer = e;
+  preamble = appends-one a b .1;
+  threads = appends-one (l .threads) (k .threads) .1;
+  kinds = appends-one (l .kinds) (k .kinds) .1;
+  objects = appends-one (l .objects) (k .objects) .1;
+}
 
 module _ (text : List ℕ) where
   -- lines that make a recording have no bad line
-  none-bad : {notes : List (List ℕ)} {es : Trace} → Makes (lines text) notes es → (n : ℕ) → ((other : List (List ℕ)) (more : Trace) → ¬ Makes (take n (lines text)) other more) → ⊥
+  pub none-bad : {notes : List (List ℕ)} {es : Trace} → Makes (lines text) notes es → (n : ℕ) → ((other : List (List ℕ)) (more : Trace) → ¬ Makes (take n (lines text)) other more) → ⊥
   none-bad {notes} {es} m n f = f (take n notes) (take (n - length notes) es) (makes-front n m)
 
   -- and those before a bad line none before it
@@ -144,28 +154,30 @@ module _ (text : List ℕ) where
       → ((other : List (List ℕ)) (more : Trace) → ¬ Makes (take n (lines text)) other more) → n < m → ⊥
   none-before {notes} {es} m x n f h = f (take n notes) (take (n - length notes) es) (rw (take-take n (m - 1) (lines text) (omega arith)) at (makes-front n x))
 
+  pub bad-one : {n m : ℕ} → FirstBad text n → FirstBad text m → n ≡ m
+  bad-one {n} {m} x y =
+      by-cases (ltb n m) (λ e. absurd (none-before m (y .before) n (x .none) (ltb-true n m e)))
+      (λ e.
+      by-cases (ltb m n) (λ d. absurd (none-before n (x .before) m (y .none) (ltb-true m n d)))
+      (λ d. let u = ltb-false n m e in let v = ltb-false m n d in omega arith))
+
   pub text-one : {pre pre₁ pre₂ th th₁ th₂ ki ki₁ ki₂ ob ob₁ ob₂ : List ℕ} {r s : Text} → ReadsText text pre pre₁ th th₁ ki ki₁ ob ob₁ r
       → ReadsText text pre pre₂ th th₂ ki ki₂ ob ob₂ s → Settled r s pre₁ pre₂ th₁ th₂ ki₁ ki₂ ob₁ ob₂
   text-one (good {notes = notes} {es = es} {a = a} {p = p} {n = n} m ea en pr li) (good {notes = notes′} {es = es′} {a = a′} {p = p′} {n = n′} m′ ea′ en′ pr′ li′) =
-      let l = lines-one notes notes′ es es′ (m .in-range) (m′ .in-range) (sym (m .these) ∙ m′ .these) in
+      let l = makes-one m m′ in
       let x = l .0 in
       let y = l .1 in
-      let q = appends-one (rw x at pr) pr′ in
-      let t = appends-one (rw y at (li .threads)) (li′ .threads) in
-      let k = appends-one (rw y at (li .kinds)) (li′ .kinds) in
-      let o = appends-one (rw y at (li .objects)) (li′ .objects) in
-      let u = q .0 in
-      let v = t .0 in
+      let u = appends-one (rw x at pr) pr′ .0 in
+      let v : n ≡ n′ = en ∙ ap length y ∙ sym en′ in
       let w : a ≡ a′ = ea ∙ ap length x ∙ sym ea′ in
-      record { answer = cc; lent = λ b c d e. (q .1, t .1, k .1, o .1) }
-  text-one (good m ea en pr li) (bad-line {n = n} x) = absurd (none-bad m n (x .none))
-  text-one (bad-line {n = n} x) (good m ea en pr li) = absurd (none-bad m n (x .none))
-  text-one (bad-line {n = n} x) (bad-line {n = n′} y) =
-      by-cases (ltb n n′) (λ e. absurd (none-before n′ (y .before) n (x .none) (ltb-true n n′ e)))
-      (λ e.
-      by-cases (ltb n′ n) (λ d. absurd (none-before n (x .before) n′ (y .none) (ltb-true n′ n d)))
-      (λ d.
-      let u = ltb-false n n′ e in
-      let v = ltb-false n′ n d in
-      let z : n ≡ n′ = omega arith in
-      record { answer = ap Bad z; lent = λ b c k q. let o : _≡_ {A = ℕ} 0 1 = cc in absurd (omega arith) }))
+      let z : Good a p n ≡ Good a′ p′ n′ = cc in
+      same-lent z (rw x at pr) pr′ (rw y at li) li′
+  text-one (good m ea en pr li) (bad-line {n = n} x u v) = absurd (none-bad m n (x .none))
+  text-one (bad-line {n = n} x u v) (good m ea en pr li) = absurd (none-bad m n (x .none))
+  text-one (bad-line {n = n} x pr li) (bad-line {n = n′} y pr′ li′) =
+      let z = bad-one x y in
+      let b : Makes (take (n′ - 1) (lines text)) (x .notes) (x .es) = rw z at (x .before) in
+      let l = makes-one b (y .before) in
+      let u = l .0 in
+      let v = l .1 in
+      same-lent (ap Bad z) (rw u at pr) pr′ (rw v at li) li′

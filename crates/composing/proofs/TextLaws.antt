@@ -15,7 +15,7 @@ use Rattle.model.proofs.Tests.{by-cases}
 use Rattle.model.specs.Trace.{Event, Trace}
 use Rattle.appending.specs.Appended.{Appends}
 use Rattle.appending.proofs.AppendLaws.{appends-nothing, appends-byte, appends-then}
-use Rattle.preambles.specs.Readable.{isReadable}
+use Rattle.preambles.specs.Readable.{Readable}
 use Rattle.composing.specs.Lines.{noteLine, IsNote, eventLine, InRange, IsEvent, Reads}
 use Rattle.composing.specs.Texts.{lines, joined, Makes, Listed, ReadsText, good, bad-line}
 use Rattle.composing.specs.Parts.{SaysNote, NextLine, noteBytes, NotesRead, NotesUpTo, ListsLent, EventsRead, ReadsEvents, all, stopped}
@@ -133,7 +133,7 @@ module _ {text pre₀ pre : List ℕ} {n p at : ℕ} (r : NotesRead text pre₀ 
           record {
             notes = r .notes ++ (is-note .text ∷ []);
             these = lines-more noteLine (lines text) (r .notes) (lines (drop at text)) (lines (drop next text)) (take (end - at) (drop at text)) (is-note .text) (r .these) (l .splits) (is-note .these);
-            readable = all-more (λ (t : List ℕ). isReadable t ≡ true) (r .notes) (is-note .text) (r .readable) (is-note .readable);
+            readable = all-more (λ (t : List ℕ). Readable t) (r .notes) (is-note .text) (r .readable) (is-note .readable);
             number = let m = length-more (r .notes) (is-note .text) in let k = r .number in omega arith;
             put = c .0;
             within = l .within;
@@ -280,6 +280,8 @@ module _ {text pre pre′ : List ℕ} {a p end : ℕ} (r : NotesUpTo text pre pr
           before = record { these = t; readable = r .read .readable; in-range = s .in-range };
           none = λ notes es x. makes-none front l f (m .0) (m .1) (m .2) notes es (rw u at x);
         })
+        (r .read .put)
+        (s .put)
 
   pub text-bad : {v : Events} → ReadsEvents text end th th′ ki ki′ ob ob′ v → (n : ℕ) → v ≡ Stopped n → ReadsText text pre pre′ th th′ ki ki′ ob ob′ (Bad (a + n + 1))
   text-bad (all s h) n e = let o : _≡_ {A = ℕ} 0 1 = cc in absurd (omega arith)

@@ -1,11 +1,11 @@
 -- The lines of a text that a recording is made of, as bytes, and what reading one gives.
 use Prim.Native.Nat.{ℕ, _≤_, _<_}
 use mathlib.Core.Path.{_≡_}
-use mathlib.Core.Bool.{true, cond}
+use mathlib.Core.Bool.{cond}
 use mathlib.Core.List.{List, [], _∷_, _++_}
 use lib.Dec.{eqb}
 use Rattle.model.specs.Trace.{Event, read, write, acquire, release}
-use Rattle.preambles.specs.Readable.{isReadable}
+use Rattle.preambles.specs.Readable.{Readable}
 use Rattle.appending.specs.Decimal.{decimal}
 use Rattle.composing.specs.declared.Line.{Line}
 use Rattle.composing.specs.declared.Line.the-variants.{Bad, Note, Event as EventOf}
@@ -45,7 +45,7 @@ noteLine text = noteWord ++ text
 -- the line of a text whose bytes a preamble may hold; a line has no line feed, so they are 20 to 7E hex
 pub record IsNote (line : List ℕ) : Type 0 where
   pub text : List ℕ
-  pub readable : isReadable text ≡ true
+  pub readable : Readable text
   pub these : line ≡ noteLine text
 
 -- ---- event lines

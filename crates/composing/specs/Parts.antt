@@ -7,7 +7,7 @@ use mathlib.Core.List.{List, [], _∷_, _++_, map, List·Memᴰ}
 use lib.ListN.{length, take, drop}
 use lib.Dec.{eqb, ltb}
 use Rattle.model.specs.Trace.{Event, Trace, read, release}
-use Rattle.preambles.specs.Readable.{lineFeed, isReadable}
+use Rattle.preambles.specs.Readable.{lineFeed, Readable}
 use Rattle.appending.specs.Decimal.{decimal}
 use Rattle.appending.specs.Appended.{Appends}
 use Rattle.composing.specs.Lines.{word, noteLine, IsNote, eventLine, InRange, IsEvent}
@@ -86,7 +86,7 @@ noteBytes n text = cond (eqb n 0) text (lineFeed ∷ text)
 pub record NotesRead (text pre pre′ : List ℕ) (n p at : ℕ) : Type 0 where
   pub notes : List (List ℕ)
   pub these : lines text ≡ map noteLine notes ++ lines (drop at text)
-  pub readable : (t : List ℕ) → List·Memᴰ t notes → isReadable t ≡ true
+  pub readable : (t : List ℕ) → List·Memᴰ t notes → Readable t
   pub number : n ≡ length notes
   pub put : Appends (joined notes) 0 pre pre′ p
   pub within : at ≤ length text

@@ -1,12 +1,12 @@
 -- What reading a text gives.
 use Prim.Native.Nat.{ℕ, _-_, _≤_}
 use mathlib.Core.Path.{_≡_}
-use mathlib.Core.Bool.{true, cond}
+use mathlib.Core.Bool.{cond}
 use mathlib.Core.List.{List, [], _∷_, _++_, map, List·Memᴰ}
 use lib.ListN.{length, take}
 use lib.Dec.{eqb}
-use Rattle.model.specs.Trace.{Event, Trace}
-use Rattle.preambles.specs.Readable.{lineFeed, isReadable}
+use Rattle.model.specs.Trace.{Event, Trace, threadList, kindList, objectList}
+use Rattle.preambles.specs.Readable.{lineFeed, Readable}
 use Rattle.appending.specs.Appended.{Appends}
 use Rattle.composing.specs.Lines.{noteLine, eventLine, InRange}
 use Rattle.composing.specs.declared.Text.{Text}
@@ -19,7 +19,8 @@ abbrev pub extend : ℕ → List (List ℕ) → List (List ℕ)
 extend b [] = (b ∷ []) ∷ []
 extend b (l ∷ ls) = (b ∷ l) ∷ ls
 
--- a line feed ends a line, and any other byte is the first of a line; what follows the last line feed is a line where it has a byte
+-- a line feed ends a line, and any other byte stands in front of the first line of what follows; so what follows the last line feed is a line
+-- where it has a byte
 unfoldable pub lines : List ℕ → List (List ℕ)
 lines [] = []
 lines (b ∷ s) = cond (eqb b lineFeed) ([] ∷ lines s) (extend b (lines s))
@@ -35,14 +36,14 @@ joined (t ∷ u ∷ l) = t ++ (lineFeed ∷ joined (u ∷ l))
 -- lines that make a recording: note lines of these texts, then the lines of these events
 pub record Makes (ls : List (List ℕ)) (notes : List (List ℕ)) (es : Trace) : Type 0 where
   pub these : ls ≡ map noteLine notes ++ map eventLine es
-  pub readable : (t : List ℕ) → List·Memᴰ t notes → isReadable t ≡ true
+  pub readable : (t : List ℕ) → List·Memᴰ t notes → Readable t
   pub in-range : (e : Event) → List·Memᴰ e es → InRange e
 
 -- the events stand in the front of the three lists, and the rest of each is as it was
 pub record Listed (es : Trace) (th th′ ki ki′ ob ob′ : List ℕ) (n : ℕ) : Type 0 where
-  pub threads : Appends (map (λ (e : Event). e .thread) es) 0 th th′ n
-  pub kinds : Appends (map (λ (e : Event). e .kind) es) 0 ki ki′ n
-  pub objects : Appends (map (λ (e : Event). e .object) es) 0 ob ob′ n
+  pub threads : Appends (threadList es) 0 th th′ n
+  pub kinds : Appends (kindList es) 0 ki ki′ n
+  pub objects : Appends (objectList es) 0 ob ob′ n
 
 -- line n is the first bad line: the lines before it make a recording, and with it they do not
 pub record FirstBad (text : List ℕ) (n : ℕ) : Type 0 where
@@ -53,12 +54,21 @@ pub record FirstBad (text : List ℕ) (n : ℕ) : Type 0 where
   pub before : Makes (take (n - 1) (lines text)) notes es
   pub none : (other : List (List ℕ)) (more : Trace) → ¬ Makes (take n (lines text)) other more
 
--- what each answer means: the lines make a recording, whose preamble and events stand in the front of what is lent, the rest of which is as it was;
--- or there is a first bad line, and nothing is said of what is lent
+-- what each answer means: the lines make a recording, or there is a first bad line; the preamble and the events of the lines, or of those before
+-- the bad one, stand in the front of what is lent, the rest of which is as it was
 pub data ReadsText (text pre pre′ th th′ ki ki′ ob ob′ : List ℕ) : Text → Type 0 where
   good : {notes : List (List ℕ)} {es : Trace} {a p n : ℕ} → Makes (lines text) notes es → a ≡ length notes → n ≡ length es
       → Appends (joined notes) 0 pre pre′ p → Listed es th th′ ki ki′ ob ob′ n → ReadsText text pre pre′ th th′ ki ki′ ob ob′ (Good a p n)
-  bad-line : {n : ℕ} → FirstBad text n → ReadsText text pre pre′ th th′ ki ki′ ob ob′ (Bad n)
+  bad-line : {n p m : ℕ} (x : FirstBad text n) → Appends (joined (x .notes)) 0 pre pre′ p → Listed (x .es) th th′ ki ki′ ob ob′ m
+      → ReadsText text pre pre′ th th′ ki ki′ ob ob′ (Bad n)
+
+-- two answers are one, and what is lent holds the same in the end
+pub record Settled (r s : Text) (pre pre′ th th′ ki ki′ ob ob′ : List ℕ) : Type 0 where
+  pub answer : r ≡ s
+  pub preamble : pre ≡ pre′
+  pub threads : th ≡ th′
+  pub kinds : ki ≡ ki′
+  pub objects : ob ≡ ob′
 
 -- what is lent is as long as the text, which is longer than any preamble and any list of events in it
 pub record Lent (text pre th ki ob : List ℕ) : Type 0 where

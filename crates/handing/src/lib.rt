@@ -128,6 +128,7 @@ pub fn ask_writer(line: &[u8]) {
     let mut preamble = [0u8; PREAMBLE];
     let p = text::bytes(&line[head + 1..end], &mut preamble);
     let mut events = [0u8; Event::BYTES * EVENTS];
+    // the '/' is a digit alone, which is passed over
     let n = text::bytes(&line[end..], &mut events);
     ask_events(&preamble[0..p], &events[0..n], &numbers);
 }

@@ -5,8 +5,8 @@ use native.Mathlib.Nat.{mul-suc, mul-zero}
 use mathlib.Core.Path.{_≡_, refl, sym, _∙_, ap}
 use mathlib.Core.List.{List, [], _∷_, _++_, append-assoc}
 use lib.ListN.{length, getD, length-append, length-replicate, length-map}
-use Rattle.model.specs.Trace.{Event, Trace, noEvent}
-use Rattle.layout.specs.Written.{writtenEvent, writtenEvents, traceFrom, threadList, kindList, objectList, Even}
+use Rattle.model.specs.Trace.{Event, Trace, noEvent, threadList, kindList, objectList}
+use Rattle.layout.specs.Written.{writtenEvent, writtenEvents, traceFrom, Even}
 
 -- ---- the events of three lists
 

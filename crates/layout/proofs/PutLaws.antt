@@ -49,12 +49,6 @@ module _ {threads kinds objects : List ℕ} {at : ℕ} {out₀ : List ℕ} where
   laid-none e h = record { done = appends-nothing at out₀ (omega arith); place = omega arith; low = omega arith; even = e; room = h }
 
   module _ {out : List ℕ} {end i : ℕ} (w : Laid threads kinds objects at out₀ out end i) where
-    pub laid-kind : i < length threads → i < length kinds
-    laid-kind h = let e = w .even .kinds-too in omega arith
-
-    pub laid-object : i < length threads → i < length objects
-    laid-object h = let e = w .even .objects-too in omega arith
-
     pub laid-room : i < length threads → end + eventBytes ≤ length out
     laid-room h = let a = w .place in let b = w .room in let c = w .done .same in omega arith
 

@@ -1,7 +1,7 @@
 -- The file of a preamble and a trace, with z bytes to an event.
 use Prim.Native.Nat.{ℕ, _+_, _-_, _*_, _/_, _%_, _≤_}
 use mathlib.Core.Path.{_≡_}
-use mathlib.Core.List.{List, [], _∷_, _++_, map}
+use mathlib.Core.List.{List, [], _∷_, _++_}
 use lib.ListN.{length, replicate}
 use Rattle.model.specs.Trace.{Event, Trace}
 use Rattle.limits.specs.Limits.{eventBytes, trailerBytes, maxBytes, markFirst, markSecond}
@@ -39,16 +39,6 @@ traceFrom [] ds xs = []
 traceFrom (c ∷ cs) [] xs = []
 traceFrom (c ∷ cs) (d ∷ ds) [] = []
 traceFrom (c ∷ cs) (d ∷ ds) (x ∷ xs) = record { thread = c; kind = d; object = x } ∷ traceFrom cs ds xs
-
--- the three lists of a trace
-abbrev pub threadList : Trace → List ℕ
-threadList t = map (λ (e : Event). e .thread) t
-
-abbrev pub kindList : Trace → List ℕ
-kindList t = map (λ (e : Event). e .kind) t
-
-abbrev pub objectList : Trace → List ℕ
-objectList t = map (λ (e : Event). e .object) t
 
 -- the lists have one length
 pub record Even (threads kinds objects : List ℕ) : Type 0 where

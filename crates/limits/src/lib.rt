@@ -123,7 +123,7 @@ pub enum Refusal {
     Object(u16),
     LockHeld(u16),
     NotHolder(u16),
-    // what question 3 or the writer is lent: a list, a buffer
+    // question 3: the lent list; the writer: the buffer, or lists of different lengths
     ListShort,
     NotConflicting,
     AreaShort,

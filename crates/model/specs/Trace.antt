@@ -2,7 +2,7 @@
 -- Events go by their numbers, from 1; 0 is "no event", or the start.
 use Prim.Native.Nat.{ℕ, zero, suc, _≤_}
 use mathlib.Core.Bool.{Bool, _&&_}
-use mathlib.Core.List.{List}
+use mathlib.Core.List.{List, map}
 use lib.ListN.{length, getD}
 use lib.Dec.{eqb}
 
@@ -44,6 +44,16 @@ kindOf t k = (at t k) .kind
 
 abbrev pub objectOf : Trace → ℕ → ℕ
 objectOf t k = (at t k) .object
+
+-- the threads, kinds and objects of all events
+abbrev pub threadList : Trace → List ℕ
+threadList t = map (λ (e : Event). e .thread) t
+
+abbrev pub kindList : Trace → List ℕ
+kindList t = map (λ (e : Event). e .kind) t
+
+abbrev pub objectList : Trace → List ℕ
+objectList t = map (λ (e : Event). e .object) t
 
 -- k is the number of an event of the trace
 pub record Valid (t : Trace) (k : ℕ) : Type 0 where

@@ -7,7 +7,7 @@ use mathlib.Core.Option.{none}
 use mathlib.Core.List.{List, []}
 use lib.ListN.{length, take, drop}
 use lib.Seq.{take-append-seam}
-use Rattle.model.specs.Trace.{Trace}
+use Rattle.model.specs.Trace.{Trace, threadList, kindList, objectList}
 use Rattle.limits.specs.Limits.{eventBytes}
 use Rattle.limits.specs.declared.Refusal.{Refusal}
 use Rattle.limits.specs.declared.Refusal.the-variants.{ListShort}
@@ -16,7 +16,7 @@ use Rattle.judging.specs.Judged.{GoodFile}
 use Rattle.judging.proofs.FileLaws.{meaning}
 use Rattle.noting.specs.Note.{Slice, ownNote, own-note, lent-note, answerNote}
 use Rattle.noting.proofs.NoteExact.{note-exactly}
-use Rattle.layout.specs.Written.{written, traceFrom, threadList, kindList, objectList}
+use Rattle.layout.specs.Written.{written, traceFrom}
 use Rattle.layout.proofs.ListLaws.{lists-back, lists-even}
 use Rattle.layout.proofs.ReadsBack.{reads-back}
 use Rattle.layout.proofs.WritesAgain.{writes-again, plain-today}

@@ -4,13 +4,13 @@ use mathlib.Core.Path.{_≡_}
 use mathlib.Core.Logic.{_≢_}
 use mathlib.Core.List.{List, []}
 use lib.ListN.{length, take}
-use Rattle.model.specs.Trace.{Trace}
+use Rattle.model.specs.Trace.{Trace, threadList, kindList, objectList}
 use Rattle.model.specs.Lists.{threads}
 use Rattle.limits.specs.Limits.{eventBytes}
 use Rattle.format.specs.Layout.{preamble, events}
 use Rattle.judging.specs.Judged.{GoodFile}
 use Rattle.noting.specs.Note.{Slice, whole, answerNote}
-use Rattle.layout.specs.Written.{traceFrom, threadList, kindList, objectList}
+use Rattle.layout.specs.Written.{traceFrom}
 use Rattle.layout.specs.RoundTrip.{ReadsAs, AllBytes}
 use Rattle.writing.specs.Writing.{holding, answerWrite}
 use Rattle.writing.specs.declared.Written.{Written}

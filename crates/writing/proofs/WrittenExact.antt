@@ -11,7 +11,7 @@ use borrow.Author.Tests.{leb-true, le-leb}
 use Rattle.model.specs.Trace.{Trace}
 use Rattle.model.specs.Good.{maxEvents}
 use Rattle.model.proofs.Tests.{by-cases, false-test, test-false}
-use Rattle.limits.specs.Limits.{eventBytes, maxBytes}
+use Rattle.limits.specs.Limits.{eventBytes}
 use Rattle.limits.specs.declared.Refusal.{Refusal}
 use Rattle.preambles.specs.Readable.{Readable}
 use Rattle.format.specs.Layout.{count, Sized, Layout, bad-size, wrong-mark, bad-distance}
@@ -22,17 +22,17 @@ use Rattle.judging.proofs.FileLaws.{meaning}
 use Rattle.layout.specs.Written.{written, writtenBytes, Even}
 use Rattle.layout.proofs.SizeLaws.{written-length}
 use Rattle.layout.proofs.ReadsBack.{count-back, marked-back, pointed-back, reads-back}
-use Rattle.writing.specs.Writing.{WriteAnswer, too-long, too-many, unreadable, bad-event, fileFrom, Writes, uneven, not-read, buffer-short, wrote, isEven, handed, answerWrite}
+use Rattle.writing.specs.Writing.{NotTooLong, WriteAnswer, too-long, too-many, unreadable, bad-event, fileFrom, Writes, uneven, not-read, buffer-short, wrote, isEven, handed, answerWrite}
 use Rattle.writing.specs.declared.Written.{Written}
 use Rattle.writing.proofs.WriteLaws.{even-true, true-even}
 
 -- ---- a written file
 
 module _ (z : ℕ) (h : 4 ≤ z) (p : List ℕ) (t : Trace) where
-  fits-of : Sized (written z p t) → writtenBytes z (length p) (length t) ≤ maxBytes
+  fits-of : Sized (written z p t) → NotTooLong z p t
   fits-of s = let m = s .most in let e = written-length z h p t in omega arith
 
-  sized-of : writtenBytes z (length p) (length t) ≤ maxBytes → Sized (written z p t)
+  sized-of : NotTooLong z p t → Sized (written z p t)
   unfolding writtenBytes
   sized-of f = let e = written-length z h p t in record { least = omega arith; most = omega arith }
 
@@ -42,7 +42,7 @@ module _ (z : ℕ) (h : 4 ≤ z) (p : List ℕ) (t : Trace) where
   few-back : length t ≤ maxEvents → count (written z p t) ≤ maxEvents
   few-back f = let e = count-back z h p t in omega arith
 
-  layout-back : writtenBytes z (length p) (length t) ≤ maxBytes → length t ≤ maxEvents → Readable p → Layout z (written z p t)
+  layout-back : NotTooLong z p t → length t ≤ maxEvents → Readable p → Layout z (written z p t)
   layout-back f n r = record {
     sized = sized-of f;
     marked = marked-back z h p t;

@@ -22,17 +22,21 @@ use Rattle.writing.specs.declared.Written.the-variants.{Refused, Bytes}
 
 -- ---- what reading says of a written file, by what was handed in: a preamble p and a trace t, with z bytes to an event
 
+-- the file is not too long
+abbrev pub NotTooLong : ℕ → List ℕ → Trace → Type 0
+NotTooLong z p t = writtenBytes z (length p) (length t) ≤ maxBytes
+
 pub record Writable (z : ℕ) (p : List ℕ) (t : Trace) : Type 0 where
-  pub fits : writtenBytes z (length p) (length t) ≤ maxBytes
+  pub fits : NotTooLong z p t
   pub readable : Readable p
   pub good : Good t
 
 -- refusals 1, 3, 13 and 5 to 9; 2 and 4 have no case
 pub data WriteRefusal (z : ℕ) (p : List ℕ) (t : Trace) : Refusal → Type 0 where
-  too-long : ¬ (writtenBytes z (length p) (length t) ≤ maxBytes) → WriteRefusal z p t FileSize
-  too-many : writtenBytes z (length p) (length t) ≤ maxBytes → ¬ (length t ≤ maxEvents) → WriteRefusal z p t EventCount
-  unreadable : writtenBytes z (length p) (length t) ≤ maxBytes → length t ≤ maxEvents → ¬ Readable p → WriteRefusal z p t Preamble
-  bad-event : {r : Refusal} → writtenBytes z (length p) (length t) ≤ maxBytes → length t ≤ maxEvents → Readable p
+  too-long : ¬ NotTooLong z p t → WriteRefusal z p t FileSize
+  too-many : NotTooLong z p t → ¬ (length t ≤ maxEvents) → WriteRefusal z p t EventCount
+  unreadable : NotTooLong z p t → length t ≤ maxEvents → ¬ Readable p → WriteRefusal z p t Preamble
+  bad-event : {r : Refusal} → NotTooLong z p t → length t ≤ maxEvents → Readable p
       → (x : RefusedEvent) → FirstRefusal t x → numberOf r ≡ x .code → eventOf r ≡ At (x .event) → WriteRefusal z p t r
 
 abbrev pub WriteAnswer : ℕ → List ℕ → Trace → Option Refusal → Type 0

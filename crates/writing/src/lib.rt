@@ -70,7 +70,8 @@ fn write_fitting(
     hand(&file[..size], buffer)
 }
 
-// Writes the file of a preamble and of the events whose threads, kinds and objects the three lists have.
+// Writes the file of a preamble and of the events whose threads, kinds and objects the three lists have. Lists of different lengths are
+// refusal 10, judged first; then comes what reading the file would give; a buffer too short is refusal 10, judged last.
 pub fn write_file(
     preamble: &[u8],
     threads: &[u8],

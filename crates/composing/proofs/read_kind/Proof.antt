@@ -1,22 +1,24 @@
-use Rattle.composing.proofs.LineLaws.{kind-read, kind-write, kind-acquire, kind-release, kind-other}
+use Rattle.composing.proofs.LineLaws.{kind-is, kind-other}
 use borrow.Author.Needs.{needs}
+use Rattle.composing.specs.Lines.{word}
 use Rattle.composing.proofs.read_kind.Statement.{statement}
 use Rattle.composing.proofs.read_kind.Tie as tie
 
 pub read-kind-spec : {M : Type 1} → statement M
+unfolding word
 read-kind-spec =
     tie.close
     (tie.spec
     (λ c. search needs)
     (λ c κs. search needs)
-    (λ c. search (kind-read, needs))
+    (λ c. search (kind-is, needs))
     (λ c. search needs)
     (λ c κs. search needs)
-    (λ c. search (kind-write, needs))
+    (λ c. search (kind-is, needs))
     (λ c. search needs)
     (λ c κs. search needs)
-    (λ c. search (kind-acquire, needs))
+    (λ c. search (kind-is, needs))
     (λ c. search needs)
     (λ c κs. search needs)
-    (λ c. search (kind-release, needs))
+    (λ c. search (kind-is, needs))
     (λ c. kind-other _ _ _ _ _ (c .before .before .before .before .before .before .before .before .before .before .same .ensures) (c .before .before .before .before .before .before .before .before .before .if1 .left) (c .before .before .before .before .before .before .before .same2 .ensures) (c .before .before .before .before .before .before .if2 .left) (c .before .before .before .before .same3 .ensures) (c .before .before .before .if3 .left) (c .before .same4 .ensures) (c .if4 .left)))

@@ -1,7 +1,7 @@
 use Prim.Native.Nat.{_-_}
 use lib.ListN.{length}
 use borrow.Author.Needs.{needs}
-use Rattle.layout.proofs.PutLaws.{Laid, laid-none, laid-kind, laid-object, laid-room, laid-one, laid-all}
+use Rattle.layout.proofs.PutLaws.{Laid, laid-none, laid-room, laid-one, laid-all}
 use Rattle.layout.proofs.put_events.Statement.{statement}
 use Rattle.layout.proofs.put_events.Tie as tie
 
@@ -19,9 +19,9 @@ put-events-spec =
     μ-loop
     (λ c. search (laid-none, needs))
     (λ c. search needs)
-    (λ c. search (laid-kind, needs))
     (λ c. search needs)
-    (λ c. search (laid-object, needs))
+    (λ c. search needs)
+    (λ c. search needs)
     (λ c κs. search (laid-room, needs))
     (λ c. search needs)
     (λ c. search needs)

@@ -1,0 +1,44 @@
+-- A text makes one recording, or is refused in one way, and leaves one content in the lent file.
+use Prim.Native.Nat.{ℕ}
+use native.Mathlib.Omega.{arith}
+use mathlib.Core.Path.{_≡_, sym, _∙_, ap}
+use mathlib.Core.List.{List}
+use lib.ListN.{length}
+use Rattle.model.specs.Trace.{Trace}
+use Rattle.limits.specs.declared.Refusal.{Refusal}
+use Rattle.composing.specs.Texts.{lines, joined, Makes}
+use Rattle.composing.proofs.OneAnswer.{makes-one, none-bad, bad-one}
+use Rattle.writing.specs.declared.Written.{Written}
+use Rattle.writing.specs.declared.Written.the-variants.{Refused as NotWritten, Bytes}
+use Rattle.compose.specs.Composed.{recorded, Composes, bad-line, refused, recording}
+use Rattle.compose.specs.declared.Composed.{Composed}
+use Rattle.compose.specs.declared.Composed.the-variants.{BadLine}
+
+not-both : (r : Refusal) (n : ℕ) → NotWritten r ≡ Bytes n → ⊥
+not-both r n e = let o : _≡_ {A = ℕ} 0 1 = cc in omega arith
+
+module _ (text file f g : List ℕ) where
+  -- the same lines are given to the writer as the same preamble and events
+  same-recorded : {notes more : List (List ℕ)} {es fs : Trace} → Makes (lines text) notes es → Makes (lines text) more fs → {w v : Written}
+      → (w, f) ≡ recorded (joined notes) es file → (v, g) ≡ recorded (joined more) fs file → (w ≡ v) × (f ≡ g)
+  same-recorded m k p q =
+      let l = makes-one m k in
+      let x = l .0 in
+      let y = l .1 in
+      let e = rw (x, y) at p ∙ sym q in
+      (ap (λ (z : Written × List ℕ). z .0) e, ap (λ (z : Written × List ℕ). z .1) e)
+
+  pub compose-one : {r s : Composed} → Composes text file f r → Composes text file g s → (r ≡ s) × (f ≡ g)
+  compose-one (bad-line x p) (bad-line y q) = (ap BadLine (bad-one text x y), p ∙ sym q)
+  compose-one (bad-line {n} x p) (refused m e q) = absurd (none-bad text m n (x .none))
+  compose-one (bad-line {n} x p) (recording m q) = absurd (none-bad text m n (x .none))
+  compose-one (refused m e p) (bad-line {n} y q) = absurd (none-bad text m n (y .none))
+  compose-one (refused {a = a} m ea p) (refused {a = b} k eb q) =
+      let s = same-recorded m k p q in
+      let u = s .0 in
+      let v : a ≡ b = ea ∙ ap length (makes-one m k .0) ∙ sym eb in
+      (cc, s .1)
+  compose-one (refused {r = r} m e p) (recording {n = n} k q) = absurd (not-both r n (same-recorded m k p q .0))
+  compose-one (recording m p) (bad-line {n} y q) = absurd (none-bad text m n (y .none))
+  compose-one (recording {n = n} m p) (refused {r = r} k e q) = absurd (not-both r n (sym (same-recorded m k p q .0)))
+  compose-one (recording m p) (recording k q) = let s = same-recorded m k p q in let u = s .0 in (cc, s .1)
