@@ -18,7 +18,7 @@ use Rattle.composing.specs.Texts.{lines, joined, Makes, ReadsText, good, bad-li
 use Rattle.composing.specs.declared.Text.{Text}
 use Rattle.composing.specs.declared.Text.the-variants.{Bad, Good}
 use Rattle.composing.proofs.AnswerLaws.{makes-few}
-use Rattle.writing.proofs.WriteLaws.{true-even}
+use Rattle.writing.proofs.WriteLaws.{true-even, refused-no-bytes}
 use Rattle.writing.specs.Writing.{writtenBy, handed, answerWrite}
 use Rattle.writing.specs.declared.Written.{Written}
 use Rattle.writing.specs.declared.Written.the-variants.{Refused as NotWritten, Bytes}
@@ -77,9 +77,7 @@ by-refusal none s file file′ n e =
     let l = ap (λ (x : Written × List ℕ). length (x .1)) e ∙ length-append s (drop (length s) file) in
     omega arith
 by-refusal (some r) s file file′ n e =
-    let p = ap (λ (x : Written × List ℕ). x .0) e in
-    let o : _≡_ {A = ℕ} 0 1 = cc in
-    absurd (omega arith)
+    absurd (refused-no-bytes r n (sym (ap (λ (x : Written × List ℕ). x .0) e)))
 
 module _ {text file file′ : List ℕ} where
   -- the bytes of a recording are within the file

@@ -1,21 +1,16 @@
 -- A text makes one recording, or is refused in one way, and leaves one content in the lent file.
 use Prim.Native.Nat.{ℕ}
-use native.Mathlib.Omega.{arith}
 use mathlib.Core.Path.{_≡_, sym, _∙_, ap}
 use mathlib.Core.List.{List}
 use lib.ListN.{length}
 use Rattle.model.specs.Trace.{Trace}
-use Rattle.limits.specs.declared.Refusal.{Refusal}
 use Rattle.composing.specs.Texts.{lines, joined, Makes}
 use Rattle.composing.proofs.OneAnswer.{makes-one, none-bad, bad-one}
+use Rattle.writing.proofs.WriteLaws.{refused-no-bytes}
 use Rattle.writing.specs.declared.Written.{Written}
-use Rattle.writing.specs.declared.Written.the-variants.{Refused as NotWritten, Bytes}
 use Rattle.compose.specs.Composed.{recorded, Composes, bad-line, refused, recording}
 use Rattle.compose.specs.declared.Composed.{Composed}
 use Rattle.compose.specs.declared.Composed.the-variants.{BadLine}
-
-not-both : (r : Refusal) (n : ℕ) → NotWritten r ≡ Bytes n → ⊥
-not-both r n e = let o : _≡_ {A = ℕ} 0 1 = cc in omega arith
 
 module _ (text file f g : List ℕ) where
   -- the same lines are given to the writer as the same preamble and events
@@ -38,7 +33,7 @@ module _ (text file f g : List ℕ) where
       let u = s .0 in
       let v : a ≡ b = ea ∙ ap length (makes-one m k .0) ∙ sym eb in
       (cc, s .1)
-  compose-one (refused {r = r} m e p) (recording {n = n} k q) = absurd (not-both r n (same-recorded m k p q .0))
+  compose-one (refused {r = r} m e p) (recording {n = n} k q) = absurd (refused-no-bytes r n (same-recorded m k p q .0))
   compose-one (recording m p) (bad-line {n} y q) = absurd (none-bad text m n (y .none))
-  compose-one (recording {n = n} m p) (refused {r = r} k e q) = absurd (not-both r n (sym (same-recorded m k p q .0)))
+  compose-one (recording {n = n} m p) (refused {r = r} k e q) = absurd (refused-no-bytes r n (sym (same-recorded m k p q .0)))
   compose-one (recording m p) (recording k q) = let s = same-recorded m k p q in let u = s .0 in (cc, s .1)

@@ -1,5 +1,5 @@
 -- The bytes of a file, put together from their pieces.
-use Prim.Native.Nat.{ℕ, _+_, _*_, _/_, _%_, _≤_, _<_}
+use Prim.Native.Nat.{ℕ, _+_, _*_, _≤_, _<_}
 use native.Mathlib.Omega.{arith}
 use native.Mathlib.Numerals.{add-one}
 use mathlib.Core.Path.{_≡_}
@@ -16,11 +16,9 @@ use Rattle.layout.specs.Written.{bytes16, bytes32, writtenEvent, written
 use Rattle.layout.proofs.ListLaws.{from-length, from-at, events-then, events-length}
 
 module _ {at p r : ℕ} {out o₁ out′ : List ℕ} where
-  pub put-two : (n : ℕ) → Appends (n % 256 ∷ []) at out o₁ p → Appends (n / 256 ∷ []) p o₁ out′ r → Appends (bytes16 n) at out out′ r
-  put-two n a b = appends-then a b
-
-  pub put-four : (n : ℕ) → Appends (bytes16 (n % 65536)) at out o₁ p → Appends (bytes16 (n / 65536)) p o₁ out′ r → Appends (bytes32 n) at out out′ r
-  put-four n a b = appends-then a b
+  -- the low half of a number and the high one
+  pub halves-put : {low high : List ℕ} (whole : List ℕ) → Appends low at out o₁ p → Appends high p o₁ out′ r → whole ≡ low ++ high → Appends whole at out out′ r
+  halves-put whole a b e = rw e (appends-then a b)
 
   module _ {q : ℕ} {o₂ : List ℕ} where
     pub event-put : (c d x : ℕ) → Appends (c ∷ []) at out o₁ p → Appends (d ∷ []) p o₁ o₂ q → Appends (bytes16 x) q o₂ out′ r

@@ -9,7 +9,6 @@ use lib.ListN.{length, take, drop}
 use lib.Seq.{take-append-seam}
 use Rattle.model.specs.Trace.{Trace, threadList, kindList, objectList}
 use Rattle.limits.specs.Limits.{eventBytes}
-use Rattle.limits.specs.declared.Refusal.{Refusal}
 use Rattle.limits.specs.declared.Refusal.the-variants.{ListShort}
 use Rattle.format.specs.Layout.{preamble, events}
 use Rattle.judging.specs.Judged.{GoodFile}
@@ -21,9 +20,10 @@ use Rattle.layout.proofs.ListLaws.{lists-back, lists-even}
 use Rattle.layout.proofs.ReadsBack.{reads-back}
 use Rattle.layout.proofs.WritesAgain.{writes-again, plain-today}
 use Rattle.writing.specs.Writing.{fileFrom, holding, Writes, uneven, not-read, buffer-short, wrote}
+use Rattle.writing.proofs.WriteLaws.{refused-no-bytes}
 use Rattle.writing.proofs.WrittenExact.{write-exactly}
 use Rattle.writing.specs.declared.Written.{Written}
-use Rattle.writing.specs.declared.Written.the-variants.{Refused, Bytes}
+use Rattle.writing.specs.declared.Written.the-variants.{Bytes}
 use Rattle.questions.specs.Answers.{answerJudge}
 use Rattle.questions.specs.RoundTrips.{AnswersFor, WhatIsWritten, WhatIsRead}
 
@@ -47,13 +47,10 @@ module _ (p : List ℕ) (t : Trace) (g : GoodFile eventBytes (written eventBytes
   }
 
 module _ (p cs ds xs buffer : List ℕ) (n : ℕ) (after : List ℕ) where
-  not-written : (r : Refusal) → Refused r ≡ Bytes n → ⊥
-  not-written r e = let z : _≡_ {A = ℕ} 0 1 = cc in omega arith
-
   front-is : {w : Written × List ℕ} → Writes p cs ds xs buffer w → w ≡ (Bytes n, after) → AnswersFor (take n after) p (traceFrom cs ds xs)
-  front-is (uneven v) e = absurd (not-written ListShort (ap (λ (x : Written × List ℕ). x .0) e))
-  front-is (not-read {r} v f) e = absurd (not-written r (ap (λ (x : Written × List ℕ). x .0) e))
-  front-is (buffer-short v g h) e = absurd (not-written ListShort (ap (λ (x : Written × List ℕ). x .0) e))
+  front-is (uneven v) e = absurd (refused-no-bytes ListShort n (ap (λ (x : Written × List ℕ). x .0) e))
+  front-is (not-read {r} v f) e = absurd (refused-no-bytes r n (ap (λ (x : Written × List ℕ). x .0) e))
+  front-is (buffer-short v g h) e = absurd (refused-no-bytes ListShort n (ap (λ (x : Written × List ℕ). x .0) e))
   front-is (wrote v g h) e =
       let s = fileFrom p cs ds xs in
       let c : Bytes (length s) ≡ Bytes n = ap (λ (x : Written × List ℕ). x .0) e in

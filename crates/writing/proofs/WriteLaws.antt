@@ -69,6 +69,9 @@ module _ (p n : ℕ) where
 
 -- ---- handing a file to a buffer
 
+pub refused-no-bytes : (r : Refusal) (n : ℕ) → Refused r ≡ Bytes n → ⊥
+refused-no-bytes r n e = let z : _≡_ {A = ℕ} 0 1 = cc in omega arith
+
 module _ (s buffer : List ℕ) (f : File) (is : f ≡ fileOf s (fileRefusal eventBytes s)) where
   pub hand-refused : (r : Refusal) → f ≡ FileRefused r → (Refused r, buffer) ≡ handed s buffer
   unfolding handed

@@ -1,4 +1,4 @@
-use Rattle.layout.proofs.PutLaws.{put-two}
+use Rattle.layout.proofs.PutLaws.{halves-put}
 use borrow.Author.Needs.{needs}
 use Rattle.layout.proofs.put16.Statement.{statement}
 use Rattle.layout.proofs.put16.Tie as tie
@@ -12,4 +12,4 @@ put16-spec =
     (λ c. search needs)
     (λ c κs. search needs)
     (λ c. search needs)
-    (λ c. search put-two))
+    (λ c. search (halves-put, needs)))
