@@ -1,18 +1,28 @@
-//! The report by the proved library beside straightforward Rust, on the same seeded recordings. The reports are
-//! compared byte for byte. The table that it prints is the one of docs/PERFORMANCE.md.
+//! The report by the proved library, and all of question 2's answers, beside straightforward Rust, on the same seeded
+//! recordings. What the two sides give is compared. The tables that it prints are those of docs/PERFORMANCE.md.
 
 mod plain;
 mod recordings;
 
 use recordings::Family;
+use std::hint::black_box;
 use std::time::{Duration, Instant};
 
 const SEEDS: u64 = 3;
 const RUNS: usize = 5;
+/// How often question 2 is answered in a run: once takes microseconds.
+const TIMES: u32 = 1000;
 
 extern "C" {
     /// The report in the front of `out`, and its length; 0 where there may be too little room.
     fn tarungkis_report(file: *const u8, bytes: usize, out: *mut u8, room: usize) -> usize;
+    /// Question 2's answers for all events in the front of `list`, and how many entries they are; 0 for a refusal.
+    fn tarungkis_observed_writes(
+        file: *const u8,
+        bytes: usize,
+        list: *mut u16,
+        entries: usize,
+    ) -> usize;
 }
 
 fn proved(file: &[u8], out: &mut [u8]) -> usize {
@@ -20,6 +30,11 @@ fn proved(file: &[u8], out: &mut [u8]) -> usize {
     let n = unsafe { tarungkis_report(file.as_ptr(), file.len(), out.as_mut_ptr(), out.len()) };
     assert!(n > 0, "room for the report");
     n
+}
+
+fn proved_observed_writes(file: &[u8], list: &mut [u16]) -> usize {
+    // SAFETY: both slices are lent for the call, which keeps neither; it writes within `list` only.
+    unsafe { tarungkis_observed_writes(file.as_ptr(), file.len(), list.as_mut_ptr(), list.len()) }
 }
 
 /// The least time of several runs.
@@ -94,6 +109,49 @@ fn family(f: Family, n: usize, text: &mut Vec<u8>, out: &mut [u8]) -> Total {
     total
 }
 
+/// All of question 2's answers for one recording: equal, and how long each side takes for `TIMES` of them.
+fn answers_side_by_side(file: &[u8]) -> (usize, Duration, Duration) {
+    let entries = plain::observed_writes(file).expect("a good recording");
+    let mut list = vec![0; entries.len()];
+    let n = proved_observed_writes(file, &mut list);
+    assert!(list[..n] == entries[..], "the answers differ");
+    let reads = entries.iter().filter(|&&e| e != u16::MAX).count();
+    let plain = least(|| {
+        for _ in 0..TIMES {
+            black_box(plain::observed_writes(black_box(file)));
+        }
+    });
+    let proved = least(|| {
+        for _ in 0..TIMES {
+            black_box(proved_observed_writes(black_box(file), &mut list));
+        }
+    });
+    (reads, plain, proved)
+}
+
+/// The row of question 2: all families together, for one recording on average.
+fn observed_writes_row(n: usize) -> String {
+    let (mut recordings, mut reads) = (0, 0);
+    let (mut plain, mut proved) = (Duration::ZERO, Duration::ZERO);
+    for f in Family::all() {
+        for seed in 1..=SEEDS {
+            let (r, p, q) = answers_side_by_side(&f.recording(n, seed));
+            recordings += 1;
+            reads += r;
+            plain += p;
+            proved += q;
+        }
+    }
+    let us = |d: Duration| d.as_secs_f64() * 1e6 / f64::from(TIMES * recordings);
+    let ratio = proved.as_secs_f64() / plain.as_secs_f64();
+    let reads = reads / recordings as usize;
+    format!(
+        "{n} | {reads} | {:.2} | {:.2} | {ratio:.2}",
+        us(plain),
+        us(proved)
+    )
+}
+
 fn main() {
     let mut text = Vec::new();
     let mut out = vec![0; 1 << 28];
@@ -121,4 +179,8 @@ fn main() {
     for (n, all) in growth {
         println!("{n} | {}", all.row());
     }
+    println!("\nall of question 2's answers for a recording, on average\n");
+    println!("events | reads | plain Rust, us | proved, us | ratio");
+    println!("--- | --- | --- | --- | ---");
+    println!("{}", observed_writes_row(512));
 }

@@ -102,6 +102,26 @@ fn links(events: &[Event]) -> Links {
     l
 }
 
+/// The entry of an event that is not a read.
+const NOT_A_READ: u16 = u16::MAX;
+
+/// Question 2 for all events at once: entry k is the write that event k sees, 0 for the start.
+#[allow(dead_code)] // only the benchmark asks it
+pub fn observed_writes(file: &[u8]) -> Option<Vec<u16>> {
+    let events = parse(file)?;
+    let mut entries = vec![NOT_A_READ; events.len()];
+    let mut last_write = [0; 256];
+    for (k, e) in events.iter().enumerate() {
+        let cell = e.object as usize;
+        match e.kind {
+            READ => entries[k] = last_write[cell],
+            WRITE => last_write[cell] = k as u16,
+            _ => {}
+        }
+    }
+    Some(entries)
+}
+
 fn conflicting(x: Event, y: Event) -> bool {
     x.object == y.object
         && x.thread != y.thread

@@ -1,6 +1,6 @@
 //! Askings of questions 2 to 6 about the recording asked about.
 
-use crate::book::Book;
+use crate::book::{Book, LONGEST};
 use crate::chance::Chance;
 use crate::questions::AREA;
 use crate::recording::Event;
@@ -34,6 +34,30 @@ pub fn ask_a_few(book: &mut Book, chance: &mut Chance, times: usize) {
             .map(|_| chance.below(256) as u8)
             .collect();
         book.ask6(&note);
+    }
+}
+
+/// Question 2 of all numbers at once with a list that is just long enough, and with one entry
+/// fewer; of a refused file with the longest list and with none, since its refusal precedes 10.
+pub fn ask_all(book: &mut Book) {
+    let lists = match book.study() {
+        Some(study) => [study.events().len() + 1, study.events().len()],
+        None => [LONGEST, 0],
+    };
+    for entries in lists {
+        book.ask22(entries);
+    }
+}
+
+/// Question 2 of all numbers at once, asked of one recording in five, with a list that is mostly
+/// long enough. It has a generator of its own, so that all other choices stay as they are.
+pub fn ask_all_now_and_then(book: &mut Book, chance: &mut Chance) {
+    let Some(study) = book.study() else { return };
+    let n = study.events().len();
+    if chance.below(5) == 0 {
+        let longer = chance.from_to(n + 1, LONGEST);
+        let lists = [n + 1, n + 1, n + 1, n + 2, longer, longer, n, 0];
+        book.ask22(chance.one_of(&lists));
     }
 }
 

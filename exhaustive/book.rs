@@ -1,11 +1,14 @@
 //! The vectors' two texts: each line asked, and the line that answers it.
 
 use crate::questions::{Asked, Verdict, AREA};
-use crate::recording::{made_readable, Event, Recording, Refusal};
+use crate::recording::{made_readable, Event, Kind, Recording, Refusal};
 use crate::rules::{fits_after, Seen};
 use crate::study::{Pair, Study};
 use crate::writer::{self, Handed};
 use std::collections::BTreeMap;
+
+/// The longest list that is lent to a question, or proposed in one.
+pub const LONGEST: usize = 600;
 
 pub struct Book {
     pub stdin: String,
@@ -130,6 +133,26 @@ impl Book {
         self.line(&format!("?2 {number}"), &answer);
     }
 
+    /// Asks question 2 of all numbers at once with a lent list of so many entries.
+    pub fn ask22(&mut self, entries: usize) {
+        assert!(entries <= LONGEST, "a list too long");
+        let mut lent = vec![None; entries];
+        let said = self.asked.all_observed(&mut lent);
+        let (front, behind) = lent.split_at(said.map_or(0, |n| n + 1));
+        let words = match said {
+            Ok(n) => format!("given {n}:{}", seen_words(front)),
+            Err(refusal) => refusal.words(),
+        };
+        let kept = behind.iter().filter(|entry| entry.is_none()).count();
+        let places = format!("; {kept} of {} entries as lent", behind.len());
+        self.count_asking("question 2 of all numbers", &words);
+        let events = self.study().map_or(&[][..], Study::events);
+        for word in seen_shape(events, front) {
+            self.count(format!("given at once with {word}, {}", self.group));
+        }
+        self.line(&format!("?22 {entries}"), &(words + &places));
+    }
+
     pub fn ask3(&mut self, a: usize, b: usize, entries: usize, area: usize) {
         let mut lent = vec![9999u16; entries];
         let mut work = vec![170u8; area];
@@ -164,7 +187,7 @@ impl Book {
     }
 
     pub fn ask5(&mut self, a: usize, b: usize, list: &[usize]) {
-        assert!(list.len() <= 600, "a list too long");
+        assert!(list.len() <= LONGEST, "a list too long");
         let answer = fault_or_refused(self.asked.check(a, b, list));
         self.count_asking("question 5", &answer);
         let numbers: String = list.iter().map(|e| format!(" {e}")).collect();
@@ -211,7 +234,9 @@ impl Book {
         let word = match first {
             "refused" => answer.split(" at ").next().unwrap_or("").to_string(),
             "no" => answer.to_string(),
-            "reported" | "not" | "none" | "yes" | "start" | "-" | "wrote" => first.to_string(),
+            "reported" | "not" | "none" | "yes" | "start" | "-" | "wrote" | "given" => {
+                first.to_string()
+            }
             _ => "numbers".to_string(),
         };
         self.count(format!("answers to {question}: {word}"));
@@ -269,6 +294,32 @@ fn shape(study: &Study, pair: &Pair) -> Vec<String> {
         words.push("lists shown where another event fitted but led nowhere");
     }
     words.into_iter().map(str::to_string).collect()
+}
+
+/// What is special about the answers given at once; only to see that the vectors are varied.
+fn seen_shape(events: &[Event], front: &[Option<Seen>]) -> Vec<&'static str> {
+    let seen = front.iter().enumerate();
+    let seen: Vec<(usize, usize)> = seen
+        .filter_map(|(read, seen)| match seen {
+            Some(Seen::Write(write)) => Some((read, *write)),
+            _ => None,
+        })
+        .collect();
+    let event = |number: usize| events[number - 1];
+    let by_another = |(read, write)| event(read).thread != event(write).thread;
+    let again = |read: usize| {
+        let cell = event(read).object;
+        let mut later = events[read..].iter();
+        later.any(|e| e.kind == Kind::Write && e.object == cell)
+    };
+    let mut words = Vec::new();
+    if seen.iter().any(|two| by_another(*two)) {
+        words.push("a read of another thread's write");
+    }
+    if seen.iter().any(|two| by_another(*two) && again(two.0)) {
+        words.push("such a read and a later write of its cell");
+    }
+    words
 }
 
 fn refused_line(refusal: &Refusal) -> String {
@@ -362,6 +413,14 @@ fn seen_or_refused(seen: Result<Seen, Refusal>) -> String {
         Ok(Seen::NotARead) => "-".to_string(),
         Err(refusal) => refusal.words(),
     }
+}
+
+/// The answers given at once, each after a space.
+fn seen_words(front: &[Option<Seen>]) -> String {
+    let given = front.iter().flatten();
+    given
+        .map(|seen| format!(" {}", seen_or_refused(Ok(*seen))))
+        .collect()
 }
 
 fn fault_or_refused(said: Result<Option<u8>, Refusal>) -> String {

@@ -1,7 +1,7 @@
 //! Group 5: damaged files, each refusal 1 to 9 and 13 at each of its edges, and two damages at
 //! once.
 
-use crate::book::Book;
+use crate::book::{Book, LONGEST};
 use crate::chance::Chance;
 use crate::preambles;
 use crate::questions::AREA;
@@ -82,6 +82,8 @@ fn sizes(book: &mut Book) {
 /// The questions asked of a refused file all give its refusal.
 pub fn ask_of_refused(book: &mut Book) {
     book.ask2(1);
+    book.ask22(0);
+    book.ask22(LONGEST);
     book.ask3(1, 8, 8, AREA);
     book.ask3(0, 0, 0, 0);
     book.ask4(0, 0, AREA);
@@ -297,8 +299,11 @@ pub fn damages() -> Vec<Damage> {
 
 fn two_at_once(book: &mut Book) {
     book.title("two damages at once: 1, 2, 3, 4, 13, then event by event 5, 6, 7, then 8 or 9");
-    for raw in pairs_of(&damages()) {
+    // without the damages 7 entries would be just enough; refusal 10 is judged after all of them
+    let lists = [0, 6, 7, LONGEST];
+    for (raw, entries) in pairs_of(&damages()).iter().zip(lists.iter().cycle()) {
         book.recording(&raw.bytes());
+        book.ask22(*entries);
     }
 }
 

@@ -1,6 +1,7 @@
 //! Group 6: recordings at the limits, and askings with odd lists, areas and numbers.
 
-use crate::book::Book;
+use crate::askings::ask_all;
+use crate::book::{Book, LONGEST};
 use crate::questions::AREA;
 use crate::recording::{acq, file, r, rel, told, w, Event};
 use crate::worked::{Q, W};
@@ -11,19 +12,14 @@ pub fn write(book: &mut Book) {
         assert_eq!(events.len(), 512, "{title}");
         book.title(&title);
         book.recording(&file(&[], &events));
-        for k in [1, 2, 256, 510, 511, 512, 513, 65535] {
-            book.ask2(k);
-        }
-        let (a, b) = last_pair(book);
-        for entries in [511, 512, 513] {
-            book.ask3(a, b, entries, AREA);
-        }
-        book.ask4(a, b, AREA);
-        book.ask4(a, b - 1, AREA);
+        ask_of_full(book);
         let mut longer = events.clone();
         longer.push(w(0, 0));
         book.recording(&file(&[], &longer));
+        // long enough for one event more than a recording may have
+        book.ask22(514);
     }
+    in_turn(book);
     numbers_of_threads(book);
     preambles(book);
     long_lists(book);
@@ -31,6 +27,22 @@ pub fn write(book: &mut Book) {
     lent_places(book, &told(W), (4, 7));
     lent_places(book, &told(W), (1, 7));
     from_numbers(book);
+}
+
+/// The questions asked of a recording of 512 events.
+fn ask_of_full(book: &mut Book) {
+    for k in [1, 2, 256, 510, 511, 512, 513, 65535] {
+        book.ask2(k);
+    }
+    for entries in [513, 512, 514, LONGEST, 0] {
+        book.ask22(entries);
+    }
+    let (a, b) = last_pair(book);
+    for entries in [511, 512, 513] {
+        book.ask3(a, b, entries, AREA);
+    }
+    book.ask4(a, b, AREA);
+    book.ask4(a, b - 1, AREA);
 }
 
 /// The last reported pair, the last conflicting one, or (1, 512).
@@ -45,7 +57,7 @@ fn last_pair(book: &Book) -> (usize, usize) {
 
 /// Recordings of 512 events with their titles.
 fn full_recordings() -> Vec<(String, Vec<Event>)> {
-    [few_threads(), sixteen_threads(), many_locks()]
+    [few_threads(), sixteen_threads(), many_locks(), many_reads()]
         .concat()
         .into_iter()
         .map(|(title, parts)| (format!("512 events: {title}"), parts.concat()))
@@ -140,6 +152,46 @@ fn many_locks() -> Vec<Parts> {
     ]
 }
 
+/// Recordings with many reads, for all of question 2's answers at once. They have few races, so
+/// that a line holds the lists shown: where cells are read from the last on, the first of the
+/// reads sees the last of the writes, so that all writes are in the cones of the other reads.
+fn many_reads() -> Vec<Parts> {
+    let written = |t, n| (0..n).map(|c| w(t, c)).collect();
+    let read = |t, n| (0..n).rev().map(|c| r(t, c)).collect();
+    let first_reads = (0..512).map(|i| r((i % 16) as u8, i % 256)).collect();
+    let unwritten = (0..32).map(|i| r(i % 16, 200)).collect();
+    vec![
+        (
+            "256 cells written by one thread, then read by thread 15, cell 255 first",
+            vec![written(0, 256), read(15, 256)],
+        ),
+        (
+            "128 cells written by one thread and read by another, then the other way round",
+            vec![written(0, 128), read(1, 128), written(1, 128), read(0, 128)],
+        ),
+        (
+            "one thread writes cell 255 and reads it, 256 times over",
+            vec![vec![w(15, 255), r(15, 255)]; 256],
+        ),
+        (
+            "eight cells, each written by one thread and read by another under a lock, 10 times",
+            [vec![handed_over(); 10], vec![unwritten]].concat(),
+        ),
+        ("reads only: all see the start", vec![first_reads]),
+    ]
+}
+
+/// Eight threads write a cell each under its lock; then eight others read one each under its lock.
+fn handed_over() -> Vec<Event> {
+    let locked = |access: Event| {
+        let (thread, lock) = (access.thread, access.object);
+        [acq(thread, lock), access, rel(thread, lock)]
+    };
+    let writes = (0..8).map(|t| w(t, t.into()));
+    let reads = (0..8).map(|t| r(15 - t, t.into()));
+    writes.chain(reads).flat_map(locked).collect()
+}
+
 /// A lock taken and given back.
 fn taken(thread: u8, lock: u16) -> Vec<Event> {
     vec![acq(thread, lock), rel(thread, lock)]
@@ -154,14 +206,28 @@ fn baton(thread: u8) -> Vec<Event> {
     events
 }
 
+/// One thread writes a cell again and again, and another reads it each time. Each write races with
+/// the next read, each read with all later writes: more than 21 rounds have lists that no line
+/// holds.
+fn in_turn(book: &mut Book) {
+    book.title("one thread writes a cell again and again, another reads it each time");
+    for rounds in [1, 2, 3, 8, 21] {
+        let events = vec![vec![w(15, 255), r(0, 255)]; rounds].concat();
+        book.recording(&file(&[], &events));
+        ask_all(book);
+    }
+}
+
 /// One to sixteen threads that all write one cell, and some again.
 fn numbers_of_threads(book: &mut Book) {
     book.title("one to sixteen threads, from 15 down and with some again");
     for n in 1..=16u8 {
         let down = (0..n).map(|t| w(15 - t, 0));
         book.recording(&file(&[], &down.collect::<Vec<_>>()));
+        book.ask22(n as usize + 1);
         let again = (0..2 * n).map(|t| r(t % n, 1));
         book.recording(&file(&[], &again.collect::<Vec<_>>()));
+        book.ask22(2 * n as usize + 1);
     }
 }
 
@@ -177,6 +243,9 @@ fn preambles(book: &mut Book) {
             book.recording(&file(&preamble, &events));
             book.ask6(b"not this one");
             book.ask6(&[]);
+            if length >= most {
+                book.ask22(n + 1);
+            }
         }
         book.recording(&file(&[], &events));
         book.ask6(&[]);
@@ -213,6 +282,9 @@ fn lent_places(book: &mut Book, events: &[Event], (a, b): (usize, usize)) {
     book.title("lent lists and areas of all sizes; refusals 11, 10, 12 in this order");
     let n = events.len();
     book.recording(&file(b"", events));
+    for entries in (0..=n + 3).chain([512, LONGEST]) {
+        book.ask22(entries);
+    }
     for pair in [(a, b), (b, a), (0, b), (a, n + 1), (a, a), (65535, 65535)] {
         for entries in [0, 1, n - 1, n, n + 1, 600] {
             for area in [0, 1, 65_535, 65_536, 65_544] {

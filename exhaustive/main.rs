@@ -1,7 +1,7 @@
 //! An independent exhaustive program: it answers the six questions of paper 01 and the writer's of
 //! request One by the published definitions alone, by listing and comparing, and writes down what
-//! it found as vectors. Two things are choices of this project: what lists of different lengths
-//! get, and the form of a text.
+//! it found as vectors. Three things are choices of this project: what lists of different lengths
+//! get, the list lent for all of question 2's answers at once, and the form of a text.
 
 mod askings;
 mod book;
@@ -98,6 +98,7 @@ fn confirm() {
 /// Further random recordings for whoever wants more than what is stored.
 fn more(seed: &str, count: &str, dir: &str, longer: bool) {
     let mut chance = Chance::new(seed.parse().expect("SEED is a number"));
+    let mut of_all = Chance::new(22);
     let count: usize = count.parse().expect("COUNT is a number");
     let mut book = Book::new();
     book.group("more random recordings");
@@ -107,6 +108,7 @@ fn more(seed: &str, count: &str, dir: &str, longer: bool) {
         } else {
             random::put_one(&mut book, &mut chance);
         }
+        askings::ask_all_now_and_then(&mut book, &mut of_all);
     }
     put(Path::new(dir), "stdin", book.stdin.as_bytes());
     put(Path::new(dir), "stdout", book.stdout.as_bytes());

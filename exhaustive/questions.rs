@@ -41,6 +41,18 @@ impl Asked {
         Ok(observed(self.study()?.events(), number))
     }
 
+    /// Question 2 of all numbers at once: entry k of the lent list is for number k, from 0 on, and
+    /// none stands for an entry as it was lent. It gives the number of events. A list too short is
+    /// refusal 10, judged last, which is a choice of this project; a refusal changes no entry.
+    pub fn all_observed(&self, entries: &mut [Option<Seen>]) -> Result<usize, Refusal> {
+        let n = self.study()?.events().len();
+        let front = entries.get_mut(..=n).ok_or(Refusal::plain(10))?;
+        for (number, entry) in front.iter_mut().enumerate() {
+            *entry = Some(self.observed(number)?);
+        }
+        Ok(n)
+    }
+
     /// Question 3: the verdict; the refusals come in the order 11, 10, 12.
     pub fn verdict(
         &self,

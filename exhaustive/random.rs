@@ -1,6 +1,6 @@
 //! Group 4: random recordings of 6 to 9 events, dense in conflicts.
 
-use crate::askings::ask_a_few;
+use crate::askings::{ask_a_few, ask_all_now_and_then};
 use crate::book::Book;
 use crate::chance::Chance;
 use crate::recording::{acq, count_threads, file, may_come_next, r, rel, told, w, Event, Kind};
@@ -19,12 +19,15 @@ struct Stock {
 pub fn write(book: &mut Book) {
     book.group("group 4: random recordings of 6 to 9 events by 2 to 4 threads");
     let mut chance = Chance::new(4);
+    let mut of_all = Chance::new(22);
     for _ in 0..RECORDINGS {
         put_one(book, &mut chance);
+        ask_all_now_and_then(book, &mut of_all);
     }
     book.group("group 4, longer ones: random recordings of 10 to 14 events");
     for turn in 0..LONGER {
         put_longer(book, &mut chance, turn);
+        ask_all_now_and_then(book, &mut of_all);
     }
 }
 

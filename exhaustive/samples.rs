@@ -1,8 +1,8 @@
 //! Group 7: the samples, their texts, and the nightly program's report (paper 01, "The nightly
 //! program").
 
-use crate::askings::{ask_next, ask_verdict};
-use crate::book::Book;
+use crate::askings::{ask_all, ask_next, ask_verdict};
+use crate::book::{Book, LONGEST};
 use crate::chance::Chance;
 use crate::questions::{Asked, AREA};
 use crate::recording::{acq, file, judge, r, rel, told, w, Event};
@@ -25,6 +25,8 @@ pub fn write(book: &mut Book) {
     for (name, bytes) in all() {
         book.title(&format!("samples/{name}.rec"));
         book.recording(&bytes);
+        ask_all(book);
+        book.ask22(LONGEST);
         for _ in 0..10 {
             ask_verdict(book, &mut chance);
             ask_next(book, &mut chance);

@@ -1,7 +1,8 @@
 //! Group 1: the worked examples P to X, the slips and the limits of paper 01.
 //! Cells x = 0, y = 1, z = 2; locks l = 0, m = 1.
 
-use crate::book::Book;
+use crate::askings::ask_all;
+use crate::book::{Book, LONGEST};
 use crate::questions::AREA;
 use crate::recording::{acq, file, told, w};
 
@@ -31,6 +32,7 @@ fn put(book: &mut Book, title: &str, text: &str, races: &[Race]) {
         .filter_map(|p| p.shown.as_deref().map(|list| (p.a, p.b, list)))
         .collect();
     assert_eq!(reported, races, "{title}");
+    ask_all(book);
 }
 
 pub fn write(book: &mut Book) {
@@ -46,6 +48,7 @@ pub fn write(book: &mut Book) {
 
 fn p_and_q(book: &mut Book) {
     put(book, "P: no events", "", &[]);
+    book.ask22(LONGEST);
     book.ask2(0);
     book.ask2(1);
     book.ask3(1, 2, 0, AREA);
@@ -57,6 +60,7 @@ fn p_and_q(book: &mut Book) {
     book.ask6(b"stand 4");
     let title = "Q: (1, 8) is reported with 5 6 7";
     put(book, title, Q, &[(1, 8, &[5, 6, 7])]);
+    book.ask22(LONGEST);
     book.ask3(1, 8, 8, AREA);
     book.ask3(1, 8, 7, AREA);
     book.ask3(8, 1, 8, AREA);
@@ -104,6 +108,7 @@ fn u_and_v(book: &mut Book) {
     book.ask3(2, 4, 4, AREA);
     let title = "V: reported, with the empty list";
     put(book, title, V, &[(1, 2, &[])]);
+    book.ask22(5);
     book.ask5(1, 2, &[]);
     book.ask5(1, 2, &[1]);
     book.ask5(1, 2, &[2]);
@@ -114,6 +119,7 @@ fn w_and_x(book: &mut Book) {
     let title = "W: (1, 7) is not reported, yet 2 3 6 passes";
     let races: [Race; 3] = [(1, 4, &[2, 3]), (3, 6, &[2]), (4, 7, &[2, 3, 6])];
     put(book, title, W, &races);
+    book.ask22(LONGEST);
     book.ask3(1, 7, 7, AREA);
     book.ask5(1, 7, &[2, 3, 6]);
     book.assert_answer("yes");
@@ -164,25 +170,32 @@ fn more_slips(book: &mut Book) {
     put(book, title, "0w0 1+0 1w0 1-0", &[(1, 3, &[2])]);
 }
 
+/// A recording at a limit or beyond it.
+fn put_limit(book: &mut Book, bytes: &[u8]) {
+    book.recording(bytes);
+    ask_all(book);
+}
+
 fn limits(book: &mut Book) {
     let many = |n: usize| file(&[], &vec![w(0, 0); n]);
     book.title("limit: 512 events good, 513 refused 3");
-    book.recording(&many(512));
-    book.recording(&many(513));
+    put_limit(book, &many(512));
+    book.ask22(LONGEST);
+    put_limit(book, &many(513));
     book.title("limit: objects 255 and 256, cells and locks");
     for object in [255, 256] {
-        book.recording(&file(&[], &[w(0, object)]));
-        book.recording(&file(&[], &[acq(0, object)]));
+        put_limit(book, &file(&[], &[w(0, object)]));
+        put_limit(book, &file(&[], &[acq(0, object)]));
     }
     book.title("limit: threads 15 and 16");
     for thread in [15, 16] {
-        book.recording(&file(&[], &[w(thread, 0)]));
+        put_limit(book, &file(&[], &[w(thread, 0)]));
     }
     book.title("limit: files of 7 and 8 bytes, of 4,096 and 4,097 bytes");
     let least = file(&[], &[]);
-    book.recording(&least[1..]);
-    book.recording(&least);
+    put_limit(book, &least[1..]);
+    put_limit(book, &least);
     for size in [4096, 4097] {
-        book.recording(&file(&vec![0x2E; size - 8], &[]));
+        put_limit(book, &file(&vec![0x2E; size - 8], &[]));
     }
 }

@@ -117,8 +117,10 @@ fn beside_a_recording(book: &mut Book) {
     book.ask_writer(&Handed::new(b"", &told("0-0")), 100);
     book.ask4(0, 0, AREA);
     book.ask2(8);
+    book.ask22(9);
     book.recording(&file(b"\t", &told(Q)));
     book.ask_writer(&Handed::new(b"V", &told(V)), 100);
+    book.ask22(9);
     book.ask6(b"operator");
     book.ask5(1, 2, &[]);
 }

@@ -1,8 +1,10 @@
 // The answers to questions 2 to 6, as text, and what questions 3 and 4 leave of what they borrow.
+use limits::Refusal;
 use limits::Trace;
 use questions::Check;
 use questions::Finding;
 use questions::Next;
+use questions::Observations;
 use questions::Observed;
 use text::at_most;
 use text::bar;
@@ -24,14 +26,19 @@ const ENTRIES: usize = 600;
 
 const BYTES: usize = 65544;
 
-// Question 2: the number of the write, the start, or '-' for what is not a read.
-pub fn observed(file: &[u8], k: u16) {
-    match questions::observed_write(file, k) {
+// An answer to question 2: the number of the write, the start, or '-' for what is not a read.
+fn say_observed(o: Observed) {
+    match o {
         Observed::Refused(r) => refused(r),
         Observed::Write(w) => number(w as u64),
         Observed::Start => word(b"start"),
         Observed::NotARead => byte(b'-'),
     }
+}
+
+// Question 2.
+pub fn observed(file: &[u8], k: u16) {
+    say_observed(questions::observed_write(file, k));
 }
 
 // Question 3 with a work area of just the bytes that it needs.
@@ -101,7 +108,42 @@ fn entries_left(list: &[u16]) -> u64 {
 fn say_left(list: &[u16]) {
     count(b"; ", entries_left(list));
     count(b" of ", list.len() as u64);
-    word(b" entries as lent, ");
+    word(b" entries as lent");
+}
+
+// The answers that entries stand for, each after a space.
+fn say_entries(entries: &[u16]) {
+    let mut i = 0;
+    while i < entries.len() {
+        byte(b' ');
+        say_observed(questions::answer_of(entries[i]));
+        i += 1;
+    }
+}
+
+// The answers for the numbers 0 to n, and what is left of the list.
+fn say_given(list: &[u16], n: u16) {
+    count(b"given ", n as u64);
+    byte(b':');
+    let used = at_most(n as usize + 1, list.len());
+    say_entries(&list[0..used]);
+    say_left(&list[used..]);
+}
+
+fn say_refused(list: &[u16], r: Refusal) {
+    refused(r);
+    say_left(list);
+}
+
+// Question 2 for all events at once, with a list of so many entries, and what is left of it.
+pub fn ask_observed_writes(file: &[u8], entries: u16) {
+    let mut entries_lent = [ENTRY; ENTRIES];
+    let e = at_most(entries as usize, ENTRIES);
+    let list = &mut entries_lent[0..e];
+    match questions::observed_writes(file, list) {
+        Observations::Refused(r) => say_refused(list, r),
+        Observations::Given(n) => say_given(list, n),
+    }
 }
 
 // How many of the bytes that a question may use are zero, and how many of those behind them are as they were lent.
@@ -126,6 +168,7 @@ pub fn ask_verdict(file: &[u8], a: u16, b: u16, entries: u16, bytes: usize) {
     let f = questions::verdict(file, a, b, list, area);
     say_finding(f, list);
     say_left(list);
+    word(b", ");
     say_area(area);
 }
 

@@ -2,3 +2,5 @@ pub mod TableLaws
 pub mod PassLaws
 pub mod ReleaseLaws
 pub mod LinkFacts
+-- What the pass knows after each event, in words
+pub mod KnowsExact

@@ -15,12 +15,12 @@ use Rattle.model.specs.Cone.{Earlier, givesBack, matching}
 use Rattle.model.proofs.Tests.{by-cases, clash, both, is-true, true-is}
 use Rattle.model.proofs.Lists.{nearest-mem, mem-before}
 use Rattle.model.proofs.ConeExact.{matching-valid}
-use Rattle.links.specs.Links.{previous, observedBy, releaseOf}
+use Rattle.links.specs.Links.{previous, observedOr, observedBy, releaseOf}
 
 -- ---- the nearest event
 
 module _ (p : ℕ → Bool) where
-  nearest-true : (l : List ℕ) → nearest p l ≢ 0 → p (nearest p l) ≡ true
+  pub nearest-true : (l : List ℕ) → nearest p l ≢ 0 → p (nearest p l) ≡ true
   nearest-true [] ne = absurd (ne refl)
   nearest-true (k ∷ l) ne = by-cases (p k) (λ e. rw e e) (λ e. rw e (nearest-true l (rw e at ne)))
 
@@ -30,7 +30,7 @@ module _ (p : ℕ → Bool) where
       (λ e. let z : nearest p (before k) ≡ 0 = eqb-true _ _ e in omega arith)
       (λ e. mem-before k _ (nearest-mem p (before k) (eqb-false _ _ e)) .1)
 
-  nearest-last : (m j : ℕ) → 1 ≤ j → j ≤ m → p j ≡ true → j ≤ nearest p (upTo m)
+  pub nearest-last : (m j : ℕ) → 1 ≤ j → j ≤ m → p j ≡ true → j ≤ nearest p (upTo m)
   nearest-last zero j h l e = absurd (omega arith)
   nearest-last (suc m) j h l e =
       by-cases (p (suc m))
@@ -62,15 +62,15 @@ module _ (t : Trace) where
   -- ---- the observed write of a read
 
   pub reads-observed : (k : ℕ) → kindOf t k ≡ read → observedBy t k ≡ observed t k
-  unfolding observedBy
+  unfolding observedOr
   reads-observed k e = rw (eq-eqb _ _ e)
 
   pub observed-reads : (k : ℕ) → observedBy t k ≢ 0 → (kindOf t k ≡ read) × (observed t k ≡ observedBy t k)
-  unfolding observedBy
+  unfolding observedOr
   observed-reads k ne = by-cases (eqb (kindOf t k) read) (λ e. (eqb-true _ _ e, rw e)) (λ e. absurd (rw e at ne refl))
 
   pub observed-less : (k : ℕ) → 1 ≤ k → observedBy t k < k
-  unfolding observedBy observed
+  unfolding observedOr observed
   observed-less k h = by-cases (eqb (kindOf t k) read) (λ e. rw e (nearest-less (λ j. does t write (objectOf t k) j) k h)) (λ e. rw e h)
 
   -- ---- the matching release of an acquire

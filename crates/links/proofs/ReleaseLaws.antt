@@ -13,8 +13,9 @@ use Rattle.model.specs.Good.{holder, WellFormed, maxObject, Good}
 use Rattle.model.specs.Cone.{givesBack, matching}
 use Rattle.model.proofs.Tests.{by-cases, true-does, does-true}
 use Rattle.links.specs.Links.{releaseOf, Table, Room}
-use Rattle.links.specs.Step.{Stepped}
-use Rattle.links.proofs.PassLaws.{Pass, pass-start, pass-end, linkOf, step-pass}
+use Rattle.linking.specs.Step.{Ready, Stepped}
+use Rattle.links.proofs.TableLaws.{table-new}
+use Rattle.links.proofs.PassLaws.{Nearest, Listed, listed-start, listed-end, linkOf, step-knows, step-listed}
 
 -- the d numbers after k
 abbrev pub after : ℕ → ℕ → List ℕ
@@ -31,6 +32,10 @@ after-mem (suc d) k j p q =
 numbers-split : (t : Trace) (d k : ℕ) → k + d ≡ length t → numbers t ≡ reverseAux (upTo k) (after k d)
 numbers-split t zero k e = let z : length t ≡ k = omega arith in rw z
 numbers-split t (suc d) k e = numbers-split t d (suc k) (omega arith)
+
+-- all of them come after 0
+pub numbers-after : (t : Trace) → numbers t ≡ after 0 (length t)
+numbers-after t = numbers-split t (length t) 0 (omega arith)
 
 -- none up to k passes the test
 skip : (p : ℕ → Bool) (k : ℕ) (r : List ℕ) → ((j : ℕ) → j ≤ k → p j ≡ false) → nearest p (reverseAux (upTo k) r) ≡ nearest p r
@@ -74,33 +79,55 @@ module _ (t : Trace) (w : WellFormed t) (k : ℕ) where
 
 -- ---- `release_links`
 
--- the events after k have passed
-pub record Backward (t : Trace) (room k : ℕ) (table out : List ℕ) : Type 0 where
+-- the events after k have passed: the table has for each lock the first release among them, and the list has their links
+pub record Backward (t : Trace) (k : ℕ) (out₀ table out : List ℕ) : Type 0 where
   pub good : Good t
   pub past : ℕ
   pub all : k + past ≡ length t
-  pub pass : Pass (does t release) (releaseOf t) (length t) maxObject room (after k past) table out
+  pub knows : Nearest (does t release) maxObject (after k past) table
+  pub listed : Listed (releaseOf t) (length t) out₀ (after k past) out
 
-pub backward-start : {t : Trace} {out : List ℕ} → Room t out → (n : ℕ) → n ≡ length t → Backward t (length (set out 0 0)) n (replicate (maxObject + 1) 0) (set out 0 0)
-backward-start {out = out} r n e = record { good = r .good; past = 0; all = omega arith; pass = pass-start out (r .long) }
+pub backward-start : {t : Trace} {out : List ℕ} → Room t out → (n : ℕ) → n ≡ length t → Backward t n (set out 0 0) (replicate (maxObject + 1) 0) (set out 0 0)
+unfolding releaseOf
+backward-start {t} {out} r n e =
+    record {
+      good = r .good;
+      past = 0;
+      all = omega arith;
+      knows = table-new _ maxObject (λ c. refl);
+      listed = listed-start (releaseOf t) out 0 (r .long) refl;
+    }
 
-module _ {t : Trace} {room k : ℕ} {table out : List ℕ} (p : Backward t room k table out) where
-  pub backward-valid : 0 < k → Valid t k
+module _ {t : Trace} {k : ℕ} {out₀ table out : List ℕ} (p : Backward t k out₀ table out) where
+  backward-valid : 0 < k → Valid t k
   backward-valid h = record { positive = h; bounded = let e = p .all in omega arith }
 
-  release-link : releaseOf t k ≡ linkOf t acquire release (after k (p .past)) k
+  pub backward-ready : 0 < k → (asks gives : ℕ) → asks < gives → Ready t k asks gives out
+  backward-ready h asks gives l =
+      let a = p .listed .long in let b = p .listed .fits in record { good = p .good; valid = backward-valid h; apart = l; long = omega arith }
+
+  release-link : releaseOf t k ≡ linkOf t acquire release 0 (after k (p .past)) k
   unfolding releaseOf linkOf
   release-link =
       by-cases (eqb (kindOf t k) acquire) (λ e. rw e (matching-first t (p .good .well-formed) k (p .past) (p .all) (eqb-true _ _ e))) (λ e. rw e)
 
-  pub backward-end : k ≤ 0 → Table (releaseOf t) (length t) out
-  unfolding releaseOf
-  backward-end h = let e = p .all in pass-end (p .pass) refl (λ j u v. after-mem (p .past) k j (omega arith) (omega arith))
+  pub backward-length : (o : List ℕ) → length out₀ ≡ length o → length out ≡ length o
+  backward-length o e = p .listed .long ∙ e
 
-pub backward-more : {t : Trace} {room k : ℕ} {table out table′ out′ : List ℕ} → Backward t room k table out → 0 < k
-    → Stepped t k acquire release table out table′ out′ → Backward t room (k - 1) table′ out′
+  pub backward-end : k ≤ 0 → Table (releaseOf t) (length t) out
+  backward-end h = let e = p .all in listed-end (p .listed) (λ j u v. after-mem (p .past) k j (omega arith) (omega arith))
+
+pub backward-more : {t : Trace} {k : ℕ} {out₀ table out table′ out′ : List ℕ} → Backward t k out₀ table out → 0 < k
+    → Stepped t k acquire release 0 table out table′ out′ → Backward t (k - 1) out₀ table′ out′
 backward-more {k = zero} p h s = absurd (omega arith)
 backward-more {k = suc k} p h s =
     let e = p .all in
     let z : suc k - 1 ≡ k = omega arith in
-    rw z (record { good = p .good; past = suc (p .past); all = omega arith; pass = step-pass (p .good) (backward-valid p h) (p .pass) (release-link p) s })
+    let v = backward-valid p h in
+    rw z (record {
+      good = p .good;
+      past = suc (p .past);
+      all = omega arith;
+      knows = step-knows (p .good) v (after (suc k) (p .past)) (p .knows) s;
+      listed = step-listed (p .good) v (after (suc k) (p .past)) (p .knows) s (p .listed) (release-link p);
+    })

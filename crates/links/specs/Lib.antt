@@ -1,3 +1,4 @@
 -- The links of an event.
 pub mod Links
-pub mod Step
+-- What the pass that finds observed writes knows on its way
+pub mod Knows

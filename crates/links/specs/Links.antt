@@ -15,9 +15,13 @@ use Rattle.model.specs.Cone.{matching}
 unfoldable pub previous : Trace → ℕ → ℕ
 previous t k = nearest (λ j. is (threadOf t k) (threadOf t j)) (before k)
 
--- the observed write of a read; 0 where it sees the start, and for every other event
-unfoldable pub observedBy : Trace → ℕ → ℕ
-observedBy t k = cond (eqb (kindOf t k) read) (observed t k) 0
+-- the observed write of a read, 0 where it sees the start; `other` for every other event
+unfoldable pub observedOr : ℕ → Trace → ℕ → ℕ
+observedOr other t k = cond (eqb (kindOf t k) read) (observed t k) other
+
+-- the same, with 0 for every other event
+abbrev pub observedBy : Trace → ℕ → ℕ
+observedBy t = observedOr 0 t
 
 -- the matching release of an acquire; 0 where there is none, and for every other event
 unfoldable pub releaseOf : Trace → ℕ → ℕ
@@ -27,6 +31,11 @@ releaseOf t k = cond (eqb (kindOf t k) acquire) (matching t k) 0
 pub record Table (f : ℕ → ℕ) (n : ℕ) (l : List ℕ) : Type 0 where
   pub long : n < length l
   pub is : (k : ℕ) → k ≤ n → getD l k 0 ≡ f k
+
+-- the places of a lent list beyond n are as they were
+pub record Beyond (n : ℕ) (l l′ : List ℕ) : Type 0 where
+  pub long : length l′ ≡ length l
+  pub kept : (k : ℕ) → n < k → getD l′ k 0 ≡ getD l k 0
 
 -- the links of a trace's events
 pub record Linked (t : Trace) (prev obs rel : List ℕ) : Type 0 where

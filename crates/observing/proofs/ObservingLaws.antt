@@ -1,42 +1,59 @@
--- The ways through the answer on good events.
-use Prim.Native.Nat.{ℕ, _<_}
+-- The ways through the answers on good events.
+use Prim.Native.Nat.{ℕ, _≤_, _<_}
 use native.Mathlib.Omega.{arith}
-use mathlib.Core.Path.{_≡_, sym, _∙_}
-use lib.ListN.{length}
-use borrow.Author.Tests.{eq-eqb, ne-eqb}
-use mir.Val.{Fits}
-use mir.Syntax.{w16}
+use mathlib.Core.Path.{_≡_, sym, _∙_, ap}
+use mathlib.Core.List.{List}
+use lib.ListN.{length, getD}
+use borrow.Author.Tests.{eq-eqb, ne-eqb, lt-ltb, le-ltb}
 use Rattle.model.specs.Trace.{Trace, read, kindOf}
-use Rattle.model.specs.Observed.{observed}
+use Rattle.model.specs.Good.{Good}
 use Rattle.model.proofs.Tests.{kind-valid}
-use Rattle.model.proofs.Histories.{observed-range}
-use Rattle.observing.proofs.ObservingExact.{some-write}
+use Rattle.limits.specs.declared.Refusal.the-variants.{ListShort}
+use Rattle.links.specs.Links.{observedOr, Table, Beyond}
 use Rattle.observing.specs.Observing.{observedIn}
+use Rattle.observing.specs.Entries.{notARead, answerOf, observationsIn}
+use Rattle.observing.specs.declared.Observed.{Observed}
 use Rattle.observing.specs.declared.Observed.the-variants.{Write, Start, NotARead}
+use Rattle.observing.specs.declared.Observations.the-variants.{Refused, Given}
+use Rattle.observing.proofs.ObservingExact.{some-write}
+use Rattle.observing.proofs.EntriesLaws.{answer-entry, pass-entry, is-entries}
+
+-- ---- `answer_of`
+
+module _ (e : ℕ) where
+  pub says-no-read : e ≡ notARead → NotARead ≡ answerOf e
+  unfolding answerOf
+  says-no-read q = rw (eq-eqb e notARead q)
+
+  module _ (ne : e ≡ notARead → ⊥) where
+    pub says-start : e ≡ 0 → Start ≡ answerOf e
+    unfolding answerOf
+    says-start q = rw q
+
+    pub says-write : (e ≡ 0 → ⊥) → Write e ≡ answerOf e
+    unfolding answerOf
+    says-write q = rw (ne-eqb e notARead ne) (sym (some-write e q))
+
+-- ---- `observed_in`
 
 module _ (t : Trace) (k : ℕ) where
-  other : (kindOf t k ≡ read → ⊥) → NotARead ≡ observedIn t k
-  unfolding observedIn
-  other ne = rw (ne-eqb (kindOf t k) read ne)
-
-  pub below : k < 1 → NotARead ≡ observedIn t k
-  below h = other (λ e. let v = kind-valid t k (λ z. omega arith) in let p = v .positive in omega arith)
-
   pub above : (n : ℕ) → n ≡ length t → n < k → NotARead ≡ observedIn t k
-  above n l h = other (λ e. let v = kind-valid t k (λ z. omega arith) in let b = v .bounded in omega arith)
+  unfolding observedIn
+  above n l h =
+      rw (ne-eqb (kindOf t k) read (λ e. let v = kind-valid t k (λ z. omega arith) in let b = v .bounded in let y : ⊥ = omega arith in y))
 
-  pub other-kind : (d : ℕ) → d ≡ kindOf t k → (d ≡ read → ⊥) → NotARead ≡ observedIn t k
-  other-kind d e ne = other (λ q. ne (e ∙ q))
+  pub by-entry : Good t → (l : List ℕ) → Table (observedOr notARead t) (length t) l → (n : ℕ) → n ≡ length t → k ≤ n → (r : Observed) → r ≡ answerOf (getD l k 0) → r ≡ observedIn t k
+  by-entry g l p n e h r q = q ∙ ap answerOf (p .is k (omega arith) ∙ pass-entry t k) ∙ answer-entry t g k (omega arith)
 
-  module _ (d : ℕ) (ed : d ≡ kindOf t k) (r : d ≡ read) (w : ℕ) (ew : w ≡ observed t k) where
-    pub start-seen : w ≡ 0 → Start ≡ observedIn t k
-    unfolding observedIn
-    start-seen z = rw (eq-eqb (kindOf t k) read (sym ed ∙ r), sym ew ∙ z)
+-- ---- `observed_writes_in`
 
-    pub write-seen : (w ≡ 0 → ⊥) → Write w ≡ observedIn t k
-    unfolding observedIn
-    write-seen ne = rw (eq-eqb (kindOf t k) read (sym ed ∙ r), ← ew) (sym (some-write w ne))
+module _ (t : Trace) (l : List ℕ) (n : ℕ) (e : n ≡ length t) where
+  pub list-short : length l ≤ n → (Refused ListShort, l) ≡ observationsIn t l
+  unfolding observationsIn
+  list-short h = rw (le-ltb (length t) (length l) (omega arith))
 
--- the write seen comes before the read, so its number fits as the read's does
-pub seen-fits : (t : Trace) (k w : ℕ) → w ≡ observed t k → (w ≡ 0 → ⊥) → Fits w16 k → Fits w16 w
-seen-fits t k w e ne f = let r = observed-range t k (λ z. ne (e ∙ z)) in let b = r .1 in let g = f .fits in record { fits = omega arith }
+  pub list-given : n < length l → (l′ : List ℕ) → Table (observedOr notARead t) (length t) l′ → Beyond (length t) l l′ → (Given n, l′) ≡ observationsIn t l
+  unfolding observationsIn
+  list-given h l′ p b =
+      let long : length t < length l = omega arith in
+      rw (lt-ltb (length t) (length l) long, e) (ap (λ (x : List ℕ). (Given (length t), x)) (is-entries t l long (λ k o. p .is k o ∙ pass-entry t k) b))

@@ -1,11 +1,12 @@
-// Question 2 on the events of a file: which write does an event see?
-use limits::Event;
+// Question 2 on the events of a good file: which write does an event see? Asked for one event, or for all of them at once; either way
+// the events pass once, from the first on.
 use limits::Refusal;
+use limits::Trace;
 ghost use mathlib.Core.Path.{_≡_};
-ghost use Rattle.model.specs.Trace.{Valid};
-ghost use Rattle.model.specs.Observed.{observed};
+ghost use Rattle.model.specs.Good.{Good};
 ghost use Rattle.format.specs.Bytes.{trace};
 ghost use Rattle.observing.specs.Observing.{observedIn};
+ghost use Rattle.observing.specs.Entries.{answerOf, observationsIn};
 
 // The answer to question 2: the number of the write that the event sees, the start, or that it is not a read.
 pub enum Observed {
@@ -15,39 +16,51 @@ pub enum Observed {
     NotARead,
 }
 
-// The last write of event k's cell before it, by any thread; 0 where there is none. Walks back from the event.
-fn observed_write(ev: &[u8], k: usize) -> usize
-    requires { ⌜ Valid (trace (now ev)) k ⌝ }
-    ensures { λ r. ⌜ r ≡ observed (trace (now (ev .entry))) k ⌝ }
+// The answer for all events at once: how many events have their entry in the lent list.
+pub enum Observations {
+    Refused(Refusal),
+    Given(u16),
+}
+
+// The entry of what is not a read; no event has this number.
+pub const NOT_A_READ: u16 = 65535;
+
+// The answer that an entry stands for.
+pub fn answer_of(entry: u16) -> Observed
+    ensures { λ r. ⌜ r ≡ answerOf entry ⌝ }
 {
-    let cell = format::object_at(ev, k);
-    let mut j = k - 1;
-    while 0 < j {
-        if format::is_event(ev, j, Event::WRITE, cell) {
-            return j;
-        }
-        j -= 1;
+    if entry == NOT_A_READ {
+        return Observed::NotARead;
     }
-    0
+    if entry == 0 {
+        return Observed::Start;
+    }
+    Observed::Write(entry)
 }
 
 // The observed write of event k of a good file's events, whatever k is.
 pub fn observed_in(ev: &[u8], k: u16) -> Observed
+    requires { ⌜ Good (trace (now ev)) ⌝ }
     ensures { λ r. ⌜ r ≡ observedIn (trace (now (ev .entry))) k ⌝ }
 {
     let at = k as usize;
-    if at < 1 {
-        return Observed::NotARead;
-    }
     if format::count(ev) < at {
         return Observed::NotARead;
     }
-    if format::kind_at(ev, at) != Event::READ {
-        return Observed::NotARead;
+    let mut entries = [0u16; Trace::PLACES];
+    links::observed_links(ev, NOT_A_READ, &mut entries);
+    answer_of(entries[at])
+}
+
+// The observed writes of all events of a good file's events: entry k of the lent list is the answer for number k, from 0 on.
+pub fn observed_writes_in(ev: &[u8], list: &mut [u16]) -> Observations
+    requires { ⌜ Good (trace (now ev)) ⌝ }
+    ensures { λ r. ⌜ (r, now (list .exit)) ≡ observationsIn (trace (now (ev .entry))) (now (list .entry)) ⌝ }
+{
+    let n = format::count(ev);
+    if list.len() <= n {
+        return Observations::Refused(Refusal::ListShort);
     }
-    let w = observed_write(ev, at);
-    if w == 0 {
-        return Observed::Start;
-    }
-    Observed::Write(w as u16)
+    links::observed_links(ev, NOT_A_READ, list);
+    Observations::Given(n as u16)
 }

@@ -1,5 +1,5 @@
 -- The ways through the questions.
-use Prim.Native.Nat.{ℕ}
+use Prim.Native.Nat.{ℕ, _+_}
 use mathlib.Core.Path.{_≡_}
 use mathlib.Core.List.{List}
 use lib.ListN.{length}
@@ -15,10 +15,14 @@ use Rattle.format.specs.declared.File.the-variants.{Refused as FileRefused, Goo
 use Rattle.judging.specs.Judged.{fileRefusal}
 use Rattle.judging.proofs.FileLaws.{judged-refused, judged-clean, judged-number}
 use Rattle.observing.specs.Observing.{observedIn}
+use Rattle.observing.specs.Entries.{observationsIn}
 use Rattle.questions.specs.Answers.{answerJudge, answerObserved}
+use Rattle.questions.specs.Observations.{answerObservations, counted}
 use Rattle.questions.specs.declared.Judgement.the-variants.{Refused as Judged, Good as GoodWith}
 use Rattle.observing.specs.declared.Observed.{Observed}
 use Rattle.observing.specs.declared.Observed.the-variants.{Refused as NotAsked}
+use Rattle.observing.specs.declared.Observations.{Observations}
+use Rattle.observing.specs.declared.Observations.the-variants.{Refused as NotGiven, Given}
 
 module _ (s : List ℕ) (f : File) (is : f ≡ fileOf s (fileRefusal eventBytes s)) where
   module _ (r : Refusal) (e : f ≡ FileRefused r) where
@@ -30,6 +34,10 @@ module _ (s : List ℕ) (f : File) (is : f ≡ fileOf s (fileRefusal eventBytes 
     unfolding answerObserved
     refused-observed k = rw (judged-refused s f is r e)
 
+    pub refused-observations : (l : List ℕ) → (NotGiven r, l) ≡ answerObservations s l
+    unfolding answerObservations
+    refused-observations l = rw (judged-refused s f is r e)
+
   module _ (t : Span) (e : f ≡ FileGood t) where
     module _ (ev : List ℕ) (part : ev ≡ eventPart eventBytes s) where
       pub good-judgement : (m : ℕ) → m ≡ length (threads (trace ev)) → GoodWith (t .events) m ≡ answerJudge s
@@ -39,3 +47,16 @@ module _ (s : List ℕ) (f : File) (is : f ≡ fileOf s (fileRefusal eventBytes 
       pub good-observed : (k : ℕ) (o : Observed) → o ≡ observedIn (trace ev) k → o ≡ answerObserved s k
       unfolding answerObserved
       good-observed k o c = rw (judged-clean s f is t e, c, part-trace s ev part)
+
+      pub good-observations : (l : List ℕ) (o : Observations × List ℕ) → o ≡ observationsIn (trace ev) l → o ≡ answerObservations s l
+      unfolding answerObservations
+      good-observations l o c = rw (judged-clean s f is t e, ← part-trace s ev part) c
+
+-- ---- for other languages: what is counted of an answer x and the list l after it
+
+module _ (x : Observations) (l : List ℕ) (a : Observations × List ℕ) (is : (x, l) ≡ a) where
+  pub none-counted : (r : Refusal) → x ≡ NotGiven r → (0, l) ≡ counted a
+  none-counted r e = rw (← is, e)
+
+  pub some-counted : (n : ℕ) → x ≡ Given n → (m : ℕ) → m ≡ n + 1 → (m, l) ≡ counted a
+  some-counted n e m q = rw (← is, e, q)

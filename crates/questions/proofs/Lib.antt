@@ -1,5 +1,6 @@
 -- Each answer is given exactly in its case
 pub mod AnswersExact
+pub mod ObservationsExact
 -- The ways through the code
 pub mod AnswerLaws
 pub mod VerdictLaws

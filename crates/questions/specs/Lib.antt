@@ -1,5 +1,6 @@
 -- The answers to the questions, as definitions over the file's bytes.
 pub mod Answers
+pub mod Observations
 pub mod Verdicts
 pub mod Searching
 -- demand 3, of the answers

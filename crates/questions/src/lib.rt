@@ -6,7 +6,9 @@ use limits::Refusal;
 use limits::Trace;
 use listing::Listed;
 pub use noting::note;
+pub use observing::Observations;
 pub use observing::Observed;
+pub use observing::answer_of;
 pub use verdicts::Finding;
 pub use writing::Written;
 pub use writing::write_file;
@@ -16,6 +18,7 @@ ghost use Rattle.model.specs.Good.{Good};
 ghost use Rattle.model.specs.Decision.{nextRace};
 ghost use Rattle.format.specs.Bytes.{trace};
 ghost use Rattle.questions.specs.Answers.{answerJudge, answerObserved};
+ghost use Rattle.questions.specs.Observations.{answerObservations, counted};
 ghost use Rattle.questions.specs.Verdicts.{answerVerdict, nextIn, answerNext, answerCheck};
 ghost use Rattle.questions.specs.Searching.{Searchable, Finds};
 
@@ -55,6 +58,27 @@ pub fn observed_write(file: &[u8], k: u16) -> Observed
     match judging::judge(file) {
         File::Refused(r) => Observed::Refused(r),
         File::Good(t) => observing::observed_in(format::events(file, t), k),
+    }
+}
+
+// Question 2 for all events at once: entry k of the lent list is the answer for number k, from 0 on, and `answer_of` says which one.
+pub fn observed_writes(file: &[u8], list: &mut [u16]) -> Observations
+    ensures { λ r. ⌜ (r, now (list .exit)) ≡ answerObservations (now (file .entry)) (now (list .entry)) ⌝ }
+{
+    match judging::judge(file) {
+        File::Refused(r) => Observations::Refused(r),
+        File::Good(t) => observing::observed_writes_in(format::events(file, t), list),
+    }
+}
+
+// The same for other languages: how many entries are answers; 0 where the file or the list is refused.
+#[no_mangle]
+pub extern "C" fn tarungkis_observed_writes(file: &[u8], list: &mut [u16]) -> usize
+    ensures { λ r. ⌜ (r, now (list .exit)) ≡ counted (answerObservations (now (file .entry)) (now (list .entry))) ⌝ }
+{
+    match observed_writes(file, list) {
+        Observations::Refused(_) => 0,
+        Observations::Given(n) => n as usize + 1,
     }
 }
 

@@ -1,19 +1,19 @@
 use Prim.Native.Nat.{_+_, _-_}
-use lib.ListN.{length}
+use lib.ListN.{length-set}
 use borrow.Author.Needs.{needs}
-use Rattle.model.specs.Trace.{does, write}
-use Rattle.model.specs.Good.{maxObject}
 use Rattle.format.specs.Bytes.{trace}
-use Rattle.links.specs.Links.{observedBy}
-use Rattle.links.proofs.PassLaws.{Forward, forward-start, forward-valid, pass-ready, observed-more, pass-length, observed-end}
+use Rattle.links.specs.Links.{observedOr}
+use Rattle.links.specs.Knows.{LastWrites}
+use Rattle.links.proofs.PassLaws.{Forward, forward-length, forward-beyond, beyond-first, forward-ready, forward-end, observed-start, observed-more}
 use Rattle.links.proofs.observed_links.Statement.{statement}
 use Rattle.links.proofs.observed_links.Tie as tie
 
+-- after each event the table has every cell's last write so far, or 0 where there is none
 abbrev Inv-loop : tie.InvT-loop
-Inv-loop ev out₀ n last₀ k₀ out last k = Forward (trace ev) (does (trace ev) write) (observedBy (trace ev)) maxObject (length out₀) n k last out
+Inv-loop ev other out₀ n last₀ k₀ out last k = Forward (trace ev) (LastWrites (trace ev)) (observedOr other (trace ev)) n k out₀ last out
 
 abbrev μ-loop : tie.MeasureT-loop
-μ-loop ev out₀ n last₀ k₀ out last k = n + 1 - k
+μ-loop ev other out₀ n last₀ k₀ out last k = n + 1 - k
 
 pub observed-links-spec : {M : Type 1} → statement M
 observed-links-spec =
@@ -23,10 +23,10 @@ observed-links-spec =
     μ-loop
     (λ c κs. search needs)
     (λ c. search needs)
-    (λ c. search (forward-start, needs))
-    (λ c κs. search (pass-ready, forward-valid, needs))
+    (λ c. search (observed-start, needs))
+    (λ c κs. search (forward-ready, needs))
     (λ c. search needs)
     (λ c. search needs)
     (λ c. search observed-more)
-    (λ c. search (pass-length, needs))
-    (λ c. search (observed-end, needs)))
+    (λ c. search (forward-length, length-set, needs))
+    (λ c. search (forward-end, forward-beyond, beyond-first, needs)))

@@ -1,15 +1,14 @@
 use Prim.Native.Nat.{_+_, _-_}
-use lib.ListN.{length}
+use lib.ListN.{length-set}
 use borrow.Author.Needs.{needs}
-use Rattle.model.specs.Good.{maxThread}
 use Rattle.format.specs.Bytes.{trace}
 use Rattle.links.specs.Links.{previous}
-use Rattle.links.proofs.PassLaws.{Forward, byThread, forward-start, forward-valid, forward-thread, forward-place, previous-more, pass-length, previous-end}
+use Rattle.links.proofs.PassLaws.{Forward, LastEvents, forward-length, forward-end, forward-valid, forward-thread, forward-place, previous-start, previous-more}
 use Rattle.links.proofs.previous_links.Statement.{statement}
 use Rattle.links.proofs.previous_links.Tie as tie
 
 abbrev Inv-loop : tie.InvT-loop
-Inv-loop ev out₀ n last₀ k₀ out last k = Forward (trace ev) (byThread (trace ev)) (previous (trace ev)) maxThread (length out₀) n k last out
+Inv-loop ev out₀ n last₀ k₀ out last k = Forward (trace ev) (LastEvents (trace ev)) (previous (trace ev)) n k out₀ last out
 
 abbrev μ-loop : tie.MeasureT-loop
 μ-loop ev out₀ n last₀ k₀ out last k = n + 1 - k
@@ -22,7 +21,7 @@ previous-links-spec =
     μ-loop
     (λ c κs. search needs)
     (λ c. search needs)
-    (λ c. search (forward-start, needs))
+    (λ c. search (previous-start, needs))
     (λ c κs. search (forward-valid, needs))
     (λ c. search needs)
     (λ c. search needs)
@@ -35,5 +34,5 @@ previous-links-spec =
     (λ c. search needs)
     (λ c. search needs)
     (λ c. search previous-more)
-    (λ c. search (pass-length, needs))
-    (λ c. search (previous-end, needs)))
+    (λ c. search (forward-length, length-set, needs))
+    (λ c. search (forward-end, needs)))

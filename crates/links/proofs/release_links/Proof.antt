@@ -1,13 +1,12 @@
-use lib.ListN.{length}
+use lib.ListN.{length-set}
 use borrow.Author.Needs.{needs}
 use Rattle.format.specs.Bytes.{trace}
-use Rattle.links.proofs.PassLaws.{pass-length, pass-ready}
-use Rattle.links.proofs.ReleaseLaws.{Backward, backward-start, backward-valid, backward-more, backward-end}
+use Rattle.links.proofs.ReleaseLaws.{Backward, backward-start, backward-ready, backward-more, backward-length, backward-end}
 use Rattle.links.proofs.release_links.Statement.{statement}
 use Rattle.links.proofs.release_links.Tie as tie
 
 abbrev Inv-loop : tie.InvT-loop
-Inv-loop ev out₀ next₀ k₀ out next k = Backward (trace ev) (length out₀) k next out
+Inv-loop ev out₀ next₀ k₀ out next k = Backward (trace ev) k out₀ next out
 
 abbrev μ-loop : tie.MeasureT-loop
 μ-loop ev out₀ next₀ k₀ out next k = k
@@ -21,9 +20,9 @@ release-links-spec =
     (λ c. search needs)
     (λ c κs. search needs)
     (λ c. search (backward-start, needs))
-    (λ c κs. search (pass-ready, backward-valid, needs))
+    (λ c κs. search (backward-ready, needs))
     (λ c. search needs)
     (λ c. search needs)
     (λ c. search (backward-more, needs))
-    (λ c. search (pass-length, needs))
+    (λ c. search (backward-length, length-set, needs))
     (λ c. search (backward-end, needs)))

@@ -1,5 +1,5 @@
-use Rattle.observing.proofs.ObservingLaws.{below, above, other-kind, start-seen, write-seen, seen-fits}
 use borrow.Author.Needs.{needs}
+use Rattle.observing.proofs.ObservingLaws.{above, by-entry}
 use Rattle.observing.proofs.observed_in.Statement.{statement}
 use Rattle.observing.proofs.observed_in.Tie as tie
 
@@ -7,12 +7,11 @@ pub observed-in-spec : {M : Type 1} → statement M
 observed-in-spec =
     tie.close
     (tie.spec
-    (λ c. search (below, needs))
     (λ c κs. search needs)
     (λ c. search (above, needs))
+    (λ c. search needs)
     (λ c κs. search needs)
-    (λ c. search other-kind)
+    (λ c. search needs)
+    (λ c. search needs)
     (λ c κs. search needs)
-    (λ c. search (start-seen, needs))
-    (λ c. search (seen-fits, needs))
-    (λ c. search (write-seen, needs)))
+    (λ c. search by-entry))

@@ -1,5 +1,5 @@
 use Rattle.questions.proofs.AnswerLaws.{refused-observed, good-observed}
-use Rattle.judging.proofs.FileLaws.{judged-placed}
+use Rattle.judging.proofs.FileLaws.{judged-placed, judged-trace}
 use borrow.Author.Needs.{needs}
 use Rattle.questions.proofs.observed_write.Statement.{statement}
 use Rattle.questions.proofs.observed_write.Tie as tie
@@ -12,6 +12,6 @@ observed-write-spec =
     (λ c. search needs)
     (λ c. search needs)
     (λ c κs. search (judged-placed, needs))
-    (λ c κs. search needs)
+    (λ c κs. search (judged-trace, needs))
     (λ c. search (refused-observed, needs))
     (λ c. search (good-observed, needs)))

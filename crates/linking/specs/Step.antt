@@ -15,7 +15,7 @@ pub record Ready (t : Trace) (k asks gives : ℕ) (out : List ℕ) : Type 0 wher
   pub apart : asks < gives
   pub long : length t < length out
 
--- event k is linked to what the table has for its object, where it asks; and where it gives, the table has it from now on
-pub record Stepped (t : Trace) (k asks gives : ℕ) (table out table′ out′ : List ℕ) : Type 0 where
-  pub linked : out′ ≡ set out k (cond (eqb (kindOf t k) asks) (getD table (objectOf t k) 0) 0)
+-- event k is linked to what the table has for its object, where it asks, else to `other`; and where it gives, the table has it from now on
+pub record Stepped (t : Trace) (k asks gives other : ℕ) (table out table′ out′ : List ℕ) : Type 0 where
+  pub linked : out′ ≡ set out k (cond (eqb (kindOf t k) asks) (getD table (objectOf t k) 0) other)
   pub taken : table′ ≡ cond (eqb (kindOf t k) gives) (set table (objectOf t k) k) table

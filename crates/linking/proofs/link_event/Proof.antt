@@ -1,7 +1,7 @@
-use Rattle.links.proofs.PassLaws.{step-object, step-offset, step-asks, step-gives, step-other}
+use Rattle.linking.proofs.StepLaws.{step-object, step-offset, step-asks, step-gives, step-other}
 use borrow.Author.Needs.{needs}
-use Rattle.links.proofs.link_event.Statement.{statement}
-use Rattle.links.proofs.link_event.Tie as tie
+use Rattle.linking.proofs.link_event.Statement.{statement}
+use Rattle.linking.proofs.link_event.Tie as tie
 
 pub link-event-spec : {M : Type 1} → statement M
 link-event-spec =
@@ -14,13 +14,13 @@ link-event-spec =
     (λ c. search needs)
     (λ c. search needs)
     (λ c. search needs)
-    (λ c. search (step-asks, needs))
+    (λ c. search step-asks)
     (λ c. search needs)
     (λ c. search needs)
     (λ c. search needs)
     (λ c. search (step-offset, needs))
     (λ c. search (step-object, needs))
     (λ c. search needs)
-    (λ c. search (step-gives, needs))
+    (λ c. search step-gives)
     (λ c. search needs)
-    (λ c. search (step-other, needs)))
+    (λ c. search step-other))

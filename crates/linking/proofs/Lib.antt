@@ -1,0 +1,2 @@
+-- The ways through a step
+pub mod StepLaws

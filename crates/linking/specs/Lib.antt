@@ -1,0 +1,2 @@
+-- A step of the passes that link events by their objects.
+pub mod Step
