@@ -111,14 +111,18 @@ fn family(f: Family, n: usize, text: &mut Vec<u8>, out: &mut [u8]) -> Total {
 
 /// All of question 2's answers for one recording: equal, and how long each side takes for `TIMES` of them.
 fn answers_side_by_side(file: &[u8]) -> (usize, Duration, Duration) {
-    let entries = plain::observed_writes(file).expect("a good recording");
+    let mut entries = Vec::new();
+    assert!(
+        plain::observed_writes(file, &mut entries),
+        "a good recording"
+    );
     let mut list = vec![0; entries.len()];
     let n = proved_observed_writes(file, &mut list);
     assert!(list[..n] == entries[..], "the answers differ");
     let reads = entries.iter().filter(|&&e| e != u16::MAX).count();
     let plain = least(|| {
         for _ in 0..TIMES {
-            black_box(plain::observed_writes(black_box(file)));
+            black_box(plain::observed_writes(black_box(file), &mut entries));
         }
     });
     let proved = least(|| {
@@ -180,7 +184,7 @@ fn main() {
         println!("{n} | {}", all.row());
     }
     println!("\nall of question 2's answers for a recording, on average\n");
-    println!("events | reads | plain Rust, us | proved, us | ratio");
+    println!("events | reads | plain Rust, µs | proved, µs | ratio");
     println!("--- | --- | --- | --- | ---");
     println!("{}", observed_writes_row(512));
 }

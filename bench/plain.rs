@@ -1,6 +1,7 @@
 //! The nightly report as straightforward Rust: the recording's events in a vector, links built once, then for
 //! each conflicting pair the cone, its split into the moved thread's events and the others', and a search with a
-//! table of dead places. Nothing is shared with the proved code; the two reports are compared byte for byte.
+//! table of dead places. And question 2 for all events at once. Nothing is shared with the proved code; what the two
+//! sides give is compared.
 
 const READ: u8 = 1;
 const WRITE: u8 = 2;
@@ -105,11 +106,14 @@ fn links(events: &[Event]) -> Links {
 /// The entry of an event that is not a read.
 const NOT_A_READ: u16 = u16::MAX;
 
-/// Question 2 for all events at once: entry k is the write that event k sees, 0 for the start.
+/// Question 2 for all events at once: entry k is the write that event k sees, 0 for the start. False for a refusal.
 #[allow(dead_code)] // only the benchmark asks it
-pub fn observed_writes(file: &[u8]) -> Option<Vec<u16>> {
-    let events = parse(file)?;
-    let mut entries = vec![NOT_A_READ; events.len()];
+pub fn observed_writes(file: &[u8], entries: &mut Vec<u16>) -> bool {
+    let Some(events) = parse(file) else {
+        return false;
+    };
+    entries.clear();
+    entries.resize(events.len(), NOT_A_READ);
     let mut last_write = [0; 256];
     for (k, e) in events.iter().enumerate() {
         let cell = e.object as usize;
@@ -119,7 +123,7 @@ pub fn observed_writes(file: &[u8]) -> Option<Vec<u16>> {
             _ => {}
         }
     }
-    Some(entries)
+    true
 }
 
 fn conflicting(x: Event, y: Event) -> bool {

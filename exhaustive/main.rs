@@ -97,8 +97,9 @@ fn confirm() {
 
 /// Further random recordings for whoever wants more than what is stored.
 fn more(seed: &str, count: &str, dir: &str, longer: bool) {
-    let mut chance = Chance::new(seed.parse().expect("SEED is a number"));
-    let mut of_all = Chance::new(22);
+    let seed: u64 = seed.parse().expect("SEED is a number");
+    let mut chance = Chance::new(seed);
+    let mut of_all = Chance::new(seed.wrapping_add(22));
     let count: usize = count.parse().expect("COUNT is a number");
     let mut book = Book::new();
     book.group("more random recordings");

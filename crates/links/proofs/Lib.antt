@@ -1,3 +1,4 @@
+pub mod NumberLaws
 pub mod TableLaws
 pub mod PassLaws
 pub mod ReleaseLaws

@@ -16,33 +16,42 @@ use Rattle.model.specs.Observed.{observed}
 use Rattle.model.specs.Good.{maxThread, maxObject, Good}
 use Rattle.model.proofs.Tests.{by-cases, in-cons, true-is, false-is, true-does, false-does, does-true, false-test}
 use Rattle.model.proofs.Lists.{before-mem}
-use Rattle.links.specs.Links.{previous, observedOr, Table, Beyond, Room}
+use Rattle.links.specs.Links.{previous, observedOr, Table, Beyond, Filled, Room}
 use Rattle.linking.specs.Step.{Ready, Stepped}
 use Rattle.links.specs.Knows.{LastWrites}
 use Rattle.links.proofs.TableLaws.{table-new, table-same, table-put}
 
 -- ---- the list of links
 
+beyond-same : (n : ℕ) (l : List ℕ) → Beyond n l l
+beyond-same n l = record { long = refl; kept = λ k h. refl }
+
+-- something is set at a place up to n
+beyond-set : {n : ℕ} (o : List ℕ) {out : List ℕ} → Beyond n o out → (k v : ℕ) → k ≤ n → Beyond n o (set out k v)
+beyond-set o {out} b k v l =
+    record { long = length-set out k v ∙ b .long; kept = λ j m. getD-set-other out k j v 0 (λ q. let z : ⊥ = omega arith in z) ∙ b .kept j m }
+
+pub beyond-first : (n : ℕ) (o : List ℕ) (v : ℕ) → Beyond n o (set o 0 v)
+beyond-first n o v = beyond-set o (beyond-same n o) 0 v (omega arith)
+
 -- The events of h have passed: the list out, which was out₀, has their links f, and f 0 at place 0; the places beyond n are as they were.
 pub record Listed (f : ℕ → ℕ) (n : ℕ) (out₀ h out : List ℕ) : Type 0 where
-  pub fits : n < length out₀
-  pub long : length out ≡ length out₀
+  pub long : n < length out
   pub first : getD out 0 0 ≡ f 0
   pub done : (k : ℕ) → k ∈ h → getD out k 0 ≡ f k
-  pub kept : (k : ℕ) → n < k → getD out k 0 ≡ getD out₀ k 0
+  pub beyond : Beyond n out₀ out
 
 pub listed-start : (f : ℕ → ℕ) {n : ℕ} (out : List ℕ) (v : ℕ) → n < length out → v ≡ f 0 → Listed f n (set out 0 v) [] (set out 0 v)
-listed-start f out v h e = record {
-  fits = rw (length-set out 0 v) h;
-  long = refl;
+listed-start f {n} out v h e = record {
+  long = rw (length-set out 0 v) h;
   first = getD-set-same out 0 v 0 (omega arith) ∙ e;
   done = λ k m. absurd (List·Memᴰ·not-nil m);
-  kept = λ k l. refl;
+  beyond = beyond-same n (set out 0 v);
 }
 
 module _ {f : ℕ → ℕ} {n : ℕ} {out₀ h out : List ℕ} (p : Listed f n out₀ h out) where
   pub listed-end : ((k : ℕ) → 1 ≤ k → k ≤ n → k ∈ h) → Table f n out
-  listed-end all = record { long = let a = p .long in let b = p .fits in omega arith; is = go }
+  listed-end all = record { long = p .long; is = go }
     where
       go : (k : ℕ) → k ≤ n → getD out k 0 ≡ f k
       go zero l = p .first
@@ -51,21 +60,23 @@ module _ {f : ℕ → ℕ} {n : ℕ} {out₀ h out : List ℕ} (p : Listed f n o
   -- event k passes, and its link is v
   pub listed-more : {k : ℕ} → 1 ≤ k → k ≤ n → (v : ℕ) → v ≡ f k → Listed f n out₀ (k ∷ h) (set out k v)
   listed-more {k} k₁ kₙ v e =
-      let a = p .long in
-      let b = p .fits in
+      let n₀ = p .long in
       record {
-        fits = p .fits;
-        long = length-set out k v ∙ p .long;
+        long = rw (length-set out k v) n₀;
         first = getD-set-other out k 0 v 0 (λ q. let z : ⊥ = omega arith in z) ∙ p .first;
         done = λ j m.
             by-cases (eqb j k)
             (λ q. rw (eqb-true j k q) (getD-set-same out k v 0 (omega arith) ∙ e))
             (λ q. let ne = eqb-false j k q in getD-set-other out k j v 0 ne ∙ p .done j (in-cons m (λ r. absurd (ne r)) (λ r. r)));
-        kept = λ j l. getD-set-other out k j v 0 (λ q. let z : ⊥ = omega arith in z) ∙ p .kept j l;
+        beyond = beyond-set out₀ (p .beyond) k v kₙ;
       }
 
-pub beyond-first : (n : ℕ) (o : List ℕ) (v : ℕ) → Beyond n o (set o 0 v)
-beyond-first n o v = record { long = length-set o 0 v; kept = λ k l. getD-set-other o 0 k v 0 (λ q. let z : ⊥ = omega arith in z) }
+  pub listed-length : (o : List ℕ) → length out₀ ≡ length o → length out ≡ length o
+  listed-length o e = p .beyond .long ∙ e
+
+-- an event of the trace may take a step
+pub listed-ready : {f : ℕ → ℕ} {t : Trace} {k : ℕ} {out₀ h out : List ℕ} → Listed f (length t) out₀ h out → Good t → Valid t k → (asks gives : ℕ) → asks < gives → Ready t k asks gives out
+listed-ready p g v asks gives l = record { good = g; valid = v; apart = l; long = p .long }
 
 -- ---- the table of the last events
 
@@ -136,11 +147,10 @@ module _ {t : Trace} {Knows : ℕ → List ℕ → Type 0} {f : ℕ → ℕ} whe
     pub forward-end : n < k → Table f (length t) out
     forward-end h = let e = p .all in listed-end (p .listed) (λ j u v. before-mem k j u (omega arith))
 
-    pub forward-length : (o : List ℕ) → length out₀ ≡ length o → length out ≡ length o
-    forward-length o e = p .listed .long ∙ e
-
-    pub forward-beyond : (o : List ℕ) → Beyond (length t) o out₀ → Beyond (length t) o out
-    forward-beyond o b = record { long = forward-length o (b .long); kept = λ j l. p .listed .kept j l ∙ b .kept j l }
+    pub forward-filled : n < k → (o : List ℕ) → Beyond (length t) o out₀ → Filled f (length t) o out
+    forward-filled h o b =
+        let c = p .listed .beyond in
+        record { table = forward-end h; beyond = record { long = c .long ∙ b .long; kept = λ j l. c .kept j l ∙ b .kept j l } }
 
     module _ (h : k ≤ n) where
       forward-more : {table′ out′ : List ℕ} → Knows (k + 1) table′ → Listed f (length t) out₀ (k ∷ before k) out′ → Forward t Knows f n (k + 1) out₀ table′ out′
@@ -151,11 +161,7 @@ module _ {t : Trace} {Knows : ℕ → List ℕ → Type 0} {f : ℕ → ℕ} whe
       forward-valid = record { positive = p .low; bounded = let e = p .all in omega arith }
 
       pub forward-place : k < length out
-      forward-place = let e = p .all in let a = p .listed .long in let b = p .listed .fits in omega arith
-
-      pub forward-ready : (asks gives : ℕ) → asks < gives → Ready t k asks gives out
-      forward-ready asks gives l =
-          let a = p .listed .long in let b = p .listed .fits in record { good = p .good; valid = forward-valid; apart = l; long = omega arith }
+      forward-place = let e = p .all in let a = p .listed .long in omega arith
 
       pub forward-thread : (b c : ℕ) → b ≡ threadOf t k → c ≡ b → c < maxThread + 1
       forward-thread b c e d = let z = p .good .thread-limit k forward-valid in omega arith

@@ -3,39 +3,20 @@ use Prim.Native.Nat.{ℕ, zero, suc, _+_, _-_, _≤_, _<_}
 use native.Mathlib.Omega.{arith}
 use mathlib.Core.Path.{_≡_, refl, _∙_, ap}
 use mathlib.Core.Bool.{Bool, false}
-use mathlib.Core.List.{List, [], _∷_, reverseAux, List·Memᴰ·head, List·Memᴰ·tail}
+use mathlib.Core.List.{List, _∷_, reverseAux}
 use lib.ListN.{length, set, replicate}
 use lib.Dec.{eqb}
-use borrow.Author.Tests.{eqb-true, eqb-false, eq-eqb, lt-ltb, le-ltb}
+use borrow.Author.Tests.{eqb-true, eq-eqb, lt-ltb, le-ltb}
 use Rattle.model.specs.Trace.{Trace, Valid, acquire, release, threadOf, kindOf, objectOf, does}
-use Rattle.model.specs.Lists.{_∈_, upTo, numbers, nearest}
+use Rattle.model.specs.Lists.{upTo, nearest}
 use Rattle.model.specs.Good.{holder, WellFormed, maxObject, Good}
 use Rattle.model.specs.Cone.{givesBack, matching}
 use Rattle.model.proofs.Tests.{by-cases, true-does, does-true}
 use Rattle.links.specs.Links.{releaseOf, Table, Room}
-use Rattle.linking.specs.Step.{Ready, Stepped}
+use Rattle.linking.specs.Step.{Stepped}
+use Rattle.links.proofs.NumberLaws.{after, after-mem, numbers-split}
 use Rattle.links.proofs.TableLaws.{table-new}
 use Rattle.links.proofs.PassLaws.{Nearest, Listed, listed-start, listed-end, linkOf, step-knows, step-listed}
-
--- the d numbers after k
-abbrev pub after : ℕ → ℕ → List ℕ
-after k zero = []
-after k (suc d) = suc k ∷ after (suc k) d
-
-after-mem : (d k j : ℕ) → k < j → j ≤ k + d → j ∈ after k d
-after-mem zero k j p q = absurd (omega arith)
-after-mem (suc d) k j p q =
-    by-cases (eqb j (suc k))
-    (λ e. List·Memᴰ·head (eqb-true j (suc k) e))
-    (λ e. let ne = eqb-false j (suc k) e in List·Memᴰ·tail (after-mem d (suc k) j (omega arith) (omega arith)))
-
-numbers-split : (t : Trace) (d k : ℕ) → k + d ≡ length t → numbers t ≡ reverseAux (upTo k) (after k d)
-numbers-split t zero k e = let z : length t ≡ k = omega arith in rw z
-numbers-split t (suc d) k e = numbers-split t d (suc k) (omega arith)
-
--- all of them come after 0
-pub numbers-after : (t : Trace) → numbers t ≡ after 0 (length t)
-numbers-after t = numbers-split t (length t) 0 (omega arith)
 
 -- none up to k passes the test
 skip : (p : ℕ → Bool) (k : ℕ) (r : List ℕ) → ((j : ℕ) → j ≤ k → p j ≡ false) → nearest p (reverseAux (upTo k) r) ≡ nearest p r
@@ -99,20 +80,13 @@ backward-start {t} {out} r n e =
     }
 
 module _ {t : Trace} {k : ℕ} {out₀ table out : List ℕ} (p : Backward t k out₀ table out) where
-  backward-valid : 0 < k → Valid t k
+  pub backward-valid : 0 < k → Valid t k
   backward-valid h = record { positive = h; bounded = let e = p .all in omega arith }
-
-  pub backward-ready : 0 < k → (asks gives : ℕ) → asks < gives → Ready t k asks gives out
-  backward-ready h asks gives l =
-      let a = p .listed .long in let b = p .listed .fits in record { good = p .good; valid = backward-valid h; apart = l; long = omega arith }
 
   release-link : releaseOf t k ≡ linkOf t acquire release 0 (after k (p .past)) k
   unfolding releaseOf linkOf
   release-link =
       by-cases (eqb (kindOf t k) acquire) (λ e. rw e (matching-first t (p .good .well-formed) k (p .past) (p .all) (eqb-true _ _ e))) (λ e. rw e)
-
-  pub backward-length : (o : List ℕ) → length out₀ ≡ length o → length out ≡ length o
-  backward-length o e = p .listed .long ∙ e
 
   pub backward-end : k ≤ 0 → Table (releaseOf t) (length t) out
   backward-end h = let e = p .all in listed-end (p .listed) (λ j u v. after-mem (p .past) k j (omega arith) (omega arith))

@@ -37,6 +37,11 @@ pub record Beyond (n : ℕ) (l l′ : List ℕ) : Type 0 where
   pub long : length l′ ≡ length l
   pub kept : (k : ℕ) → n < k → getD l′ k 0 ≡ getD l k 0
 
+-- a lent list with f k at each place k from 0 to n, and the rest as it was
+pub record Filled (f : ℕ → ℕ) (n : ℕ) (l l′ : List ℕ) : Type 0 where
+  pub table : Table f n l′
+  pub beyond : Beyond n l l′
+
 -- the links of a trace's events
 pub record Linked (t : Trace) (prev obs rel : List ℕ) : Type 0 where
   pub earlier : Table (previous t) (length t) prev

@@ -5,7 +5,7 @@ use limits::Thread;
 use linking::OBJECTS;
 ghost use lib.ListN.{length};
 ghost use Rattle.format.specs.Bytes.{trace};
-ghost use Rattle.links.specs.Links.{previous, observedOr, releaseOf, Table, Beyond, Linked, Room, Rooms};
+ghost use Rattle.links.specs.Links.{previous, observedOr, releaseOf, Table, Filled, Linked, Room, Rooms};
 
 const THREADS: usize = Thread::MAX as usize + 1;
 
@@ -30,8 +30,7 @@ pub fn previous_links(ev: &[u8], out: &mut [u16])
 // The places beyond the events are left as they are.
 pub fn observed_links(ev: &[u8], other: u16, out: &mut [u16])
     requires { ⌜ Room (trace (now ev)) (now out) ⌝ }
-    ensures { λ _. ⌜ Table (observedOr other (trace (now (ev .entry)))) (length (trace (now (ev .entry)))) (now (out .exit)) ⌝ }
-    ensures { λ _. ⌜ Beyond (length (trace (now (ev .entry)))) (now (out .entry)) (now (out .exit)) ⌝ }
+    ensures { λ _. ⌜ Filled (observedOr other (trace (now (ev .entry)))) (length (trace (now (ev .entry)))) (now (out .entry)) (now (out .exit)) ⌝ }
 {
     let n = format::count(ev);
     let mut last = [0u16; OBJECTS];

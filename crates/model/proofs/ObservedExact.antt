@@ -1,16 +1,17 @@
 -- The observed write is the last write of the cell before the read, and the start where there is none.
 use Prim.Native.Nat.{ℕ, zero, suc, _<_}
 use native.Mathlib.Omega.{arith}
-use mathlib.Core.Path.{_≡_, refl, sym, _∙_}
+use mathlib.Core.Path.{_≡_, refl}
 use mathlib.Core.Logic.{_≢_, _↔_}
 use mathlib.Core.Bool.{Bool, true, false}
 use lib.Dec.{eqb, ltb}
 use borrow.Author.Tests.{eqb-true, eqb-false, ltb-true, ltb-false}
 use Rattle.model.specs.Trace.{Trace, write, objectOf, does}
 use Rattle.model.specs.Lists.{upTo, before, nearest}
-use Rattle.model.specs.Observed.{observed, LastBefore, SeesStart}
+use Rattle.model.specs.Observed.{lastWrite, observed, LastBefore, SeesStart}
+use Rattle.model.specs.LastWrite.{LastOf, last, none-yet}
 use Rattle.model.proofs.Tests.{by-cases, clash, does-true, true-does}
-use Rattle.model.proofs.Lists.{mem-before, before-mem, none-nearest, nearest-none}
+use Rattle.model.proofs.Lists.{mem-before, before-mem, none-nearest}
 
 -- of the numbers below n, w is the last that passes
 record Last (p : ℕ → Bool) (n w : ℕ) : Type 0 where
@@ -37,51 +38,60 @@ last-before : (p : ℕ → Bool) (k : ℕ) → nearest p (before k) ≢ 0 → La
 last-before p zero ne = absurd (ne refl)
 last-before p (suc k) ne = last-passing p k ne
 
-module _ (t : Trace) (k : ℕ) where
-  start-seen : observed t k ≡ 0 → SeesStart t k
-  unfolding observed
-  start-seen e j a b c d =
-      none-nearest (λ i. does t write (objectOf t k) i) (before k) (λ i m. mem-before k i m .0) e j (before-mem k j a b) (true-does t write (objectOf t k) j c d)
+-- ---- the last write of any cell
 
-  seen-start : SeesStart t k → observed t k ≡ 0
-  unfolding observed
-  seen-start f =
-      nearest-none (λ i. does t write (objectOf t k) i) (before k)
-      (λ i m e. let r = mem-before k i m in let d = does-true t write (objectOf t k) i e in f i (r .0) (r .1) (d .0) (d .1))
-
-  write-seen : observed t k ≢ 0 → LastBefore t k (observed t k)
-  unfolding observed
-  write-seen ne =
-      let l = last-before (λ i. does t write (objectOf t k) i) k ne in
-      let d = does-true t write (objectOf t k) (observed t k) (l .passes) in
-      record {
-        positive = omega arith;
-        earlier = l .earlier;
-        writes = d .0;
-        cell = d .1;
-        last = λ j a b c e. clash (true-does t write (objectOf t k) j c e) (l .none-after j a b);
-      }
+module _ (t : Trace) (x k : ℕ) where
+  last-of : (w : ℕ) → lastWrite t x (before k) ≡ w → LastOf t x k w
+  last-of zero e =
+      none-yet (λ i a b c d. none-nearest (does t write x) (before k) (λ j m. mem-before k j m .0) e i (before-mem k i (omega arith) b) (true-does t write x i c d))
+  last-of (suc w) e =
+      let l : Last (does t write x) k (suc w) = rw e at (last-before (does t write x) k (λ z. omega arith)) in
+      let d = does-true t write x (suc w) (l .passes) in
+      last {w = suc w} (omega arith) (l .earlier) (d .0) (d .1) (λ j a b c o. clash (true-does t write x j c o) (l .none-after j a b))
 
   -- there is only one
-  only-last : (v w : ℕ) → LastBefore t k v → LastBefore t k w → v ≡ w
-  only-last v w p q =
-      by-cases (ltb v w)
-      (λ e. absurd (p .last w (ltb-true v w e) (q .earlier) (q .writes) (q .cell)))
-      (λ e.
-      by-cases (ltb w v)
-      (λ d. absurd (q .last v (ltb-true w v d) (p .earlier) (p .writes) (p .cell)))
-      (λ d. let a = ltb-false v w e in let b = ltb-false w v d in omega arith))
+  none-later : (v w : ℕ) → LastOf t x k v → LastOf t x k w → v < w → ⊥
+  none-later v w (last p l c d u) (last p′ l′ c′ d′ u′) h = u w h l′ c′ d′
+  none-later v w (none-yet u) (last p′ l′ c′ d′ u′) h = u w h l′ c′ d′
+  none-later v w q (none-yet u) h = omega arith
 
-  seen-write : (w : ℕ) → LastBefore t k w → observed t k ≡ w
-  seen-write w p =
-      by-cases (eqb (observed t k) 0)
-      (λ e. absurd (start-seen (eqb-true (observed t k) 0 e) w (p .positive) (p .earlier) (p .writes) (p .cell)))
-      (λ e. only-last (observed t k) w (write-seen (eqb-false (observed t k) 0 e)) p)
+  -- exactly the last write of the cell before event k, and 0 exactly where there is none
+  pub last-write-exactly : (w : ℕ) → (lastWrite t x (before k) ≡ w) ↔ LastOf t x k w
+  last-write-exactly w = (
+    last-of w,
+    λ q.
+        let v = lastWrite t x (before k) in
+        let p = last-of v refl in
+        by-cases (ltb v w)
+        (λ e. absurd (none-later v w p q (ltb-true v w e)))
+        (λ e. by-cases (ltb w v) (λ d. absurd (none-later w v q p (ltb-true w v d))) (λ d. let a = ltb-false v w e in let b = ltb-false w v d in omega arith)),
+  )
 
+-- ---- the observed write
+
+module _ (t : Trace) (k : ℕ) where
   -- a write exactly when it is the last of the cell before the read
   pub observed-write-exactly : (w : ℕ) → w ≢ 0 → (observed t k ≡ w) ↔ LastBefore t k w
-  observed-write-exactly w ne = ((λ e. rw e at (write-seen (λ z. ne (sym e ∙ z)))), seen-write w)
+  unfolding observed
+  observed-write-exactly w ne = (
+    λ e. seen w ne (last-write-exactly t (objectOf t k) k w .0 e),
+    λ l.
+        last-write-exactly t (objectOf t k) k w .1 (last (l .positive) (l .earlier) (l .writes) (l .cell) (l .last)),
+  )
+    where
+      seen : (w : ℕ) → w ≢ 0 → LastOf t (objectOf t k) k w → LastBefore t k w
+      seen w ne (last p l c d u) = record { positive = p; earlier = l; writes = c; cell = d; last = u }
+      seen w ne (none-yet u) = absurd (ne refl)
 
   -- the start exactly when there is none
   pub observed-start-exactly : (observed t k ≡ 0) ↔ SeesStart t k
-  observed-start-exactly = (start-seen, seen-start)
+  unfolding observed
+  observed-start-exactly = (
+    λ e. start (last-write-exactly t (objectOf t k) k 0 .0 e),
+    λ s.
+        last-write-exactly t (objectOf t k) k 0 .1 (none-yet (λ j a b. s j (omega arith) b)),
+  )
+    where
+      start : LastOf t (objectOf t k) k 0 → SeesStart t k
+      start (last p l c d u) = absurd (omega arith)
+      start (none-yet u) = λ j a b. u j (omega arith) b

@@ -1,6 +1,7 @@
 pub mod Trace
 pub mod Lists
 pub mod Observed
+pub mod LastWrite
 pub mod Good
 pub mod Reordering
 pub mod Cone

@@ -3,7 +3,7 @@ use Prim.Native.Nat.{ℕ, zero, suc, _+_, _-_, _≤_, _<_}
 use native.Mathlib.Omega.{arith}
 use mathlib.Core.Path.{_≡_, refl, sym, _∙_, ap}
 use mathlib.Core.Logic.{_≢_}
-use mathlib.Core.List.{List, map, _++_}
+use mathlib.Core.List.{List, _++_}
 use lib.ListN.{length, getD, drop, length-append, length-drop}
 use lib.Dec.{eqb, ltb}
 use lib.Seq.{ext-getD, getD-append-add, getD-drop}
@@ -13,35 +13,41 @@ use Rattle.model.specs.Observed.{observed}
 use Rattle.model.specs.Good.{Good}
 use Rattle.model.proofs.Tests.{by-cases}
 use Rattle.model.proofs.Histories.{observed-range}
-use Rattle.links.specs.Links.{observedOr, Beyond}
-use Rattle.links.proofs.ReleaseLaws.{after, numbers-after}
+use Rattle.links.specs.Links.{observedOr, Beyond, Filled}
+use Rattle.links.proofs.NumberLaws.{numbers-after, length-after, getD-after}
 use Rattle.observing.specs.Observing.{sees, observedIn}
-use Rattle.observing.specs.Entries.{notARead, entryOf, answerOf, entries, withEntries}
+use Rattle.observing.specs.Entries.{notARead, answerOf, entries, withEntries}
+use Rattle.observing.specs.declared.Observed.{Observed}
+use Rattle.observing.specs.declared.Observed.the-variants.{Refused, Write, Start, NotARead}
 
 -- ---- entries and answers
 
+-- the entry that stands for an answer (a refusal has none)
+abbrev entryOf : Observed → ℕ
+entryOf (Write w) = w
+entryOf Start = 0
+entryOf NotARead = notARead
+entryOf (Refused r) = notARead
+
 entry-sees : (w : ℕ) → entryOf (sees w) ≡ w
-unfolding entryOf
 entry-sees zero = refl
 entry-sees (suc w) = refl
 
--- an entry is that of the answer that it stands for
-pub entry-answer : (e : ℕ) → entryOf (answerOf e) ≡ e
-unfolding entryOf answerOf
+entry-answer : (e : ℕ) → entryOf (answerOf e) ≡ e
+unfolding answerOf
 entry-answer e = by-cases (eqb e notARead) (λ q. rw q (sym (eqb-true e notARead q))) (λ q. rw q (entry-sees e))
 
--- and an answer the one that its entry stands for, since no event has the number of that entry
-pub answer-entry : (t : Trace) → Good t → (k : ℕ) → k ≤ length t → answerOf (entryOf (observedIn t k)) ≡ observedIn t k
-unfolding entryOf answerOf observedIn
-answer-entry t g k l = by-cases (eqb (kindOf t k) read) (λ e. rw (e, entry-sees (observed t k), ne-eqb (observed t k) notARead small)) (λ e. rw e)
+-- no two entries stand for one answer
+pub answer-one : (e d : ℕ) → answerOf e ≡ answerOf d → e ≡ d
+answer-one e d q = sym (entry-answer e) ∙ ap entryOf q ∙ entry-answer d
+
+-- what the pass puts in the list stands for question 2's answer, since no event has the number of what is not a read
+pub pass-answer : (t : Trace) → Good t → (k : ℕ) → k ≤ length t → answerOf (observedOr notARead t k) ≡ observedIn t k
+unfolding answerOf observedOr observedIn
+pass-answer t g k l = by-cases (eqb (kindOf t k) read) (λ e. rw (e, ne-eqb (observed t k) notARead small)) (λ e. rw e)
   where
     small : observed t k ≢ notARead
     small e = let r = observed-range t k (λ z. let y : ⊥ = omega arith in y) in let s = g .size in let b = r .1 in let y : ⊥ = omega arith in y
-
--- what the pass puts in the list
-pub pass-entry : (t : Trace) (k : ℕ) → observedOr notARead t k ≡ entryOf (observedIn t k)
-unfolding entryOf observedOr observedIn
-pass-entry t k = by-cases (eqb (kindOf t k) read) (λ e. rw e (sym (entry-sees (observed t k)))) (λ e. rw e)
 
 -- ---- a list with others in its front
 
@@ -57,38 +63,25 @@ module _ (m l : List ℕ) (n : ℕ) (e : length m ≡ n + 1) where
 
 -- ---- the list of entries
 
-module _ (f : ℕ → ℕ) where
-  length-after : (d j : ℕ) → length (map f (after j d)) ≡ d
-  length-after zero j = refl
-  length-after (suc d) j = ap suc (length-after d (suc j))
-
-  getD-after : (d j i : ℕ) (r : List ℕ) → i < d → getD (map f (after j d) ++ r) i 0 ≡ f (suc (j + i))
-  getD-after zero j i r l = absurd (omega arith)
-  getD-after (suc d) j zero r l = ap f (omega arith)
-  getD-after (suc d) j (suc i) r l = getD-after d (suc j) i r (omega arith) ∙ ap f (omega arith)
-
-abbrev entryAt : Trace → ℕ → ℕ
-entryAt t k = entryOf (observedIn t k)
-
 module _ (t : Trace) (l : List ℕ) where
   length-entries : length (entries t) ≡ length t + 1
-  length-entries = rw (numbers-after t) (let e = length-after (entryAt t) (length t) 0 in omega arith)
+  length-entries = rw (numbers-after t) (let e = length-after (observedOr notARead t) (length t) 0 in omega arith)
 
-  -- the entry of each number from 0 to n
-  pub getD-entries : (k : ℕ) → k ≤ length t → getD (withEntries t l) k 0 ≡ entryOf (observedIn t k)
-  getD-entries zero h = refl
-  getD-entries (suc k) h =
-      rw (numbers-after t) (getD-after (entryAt t) (length t) 0 k (drop (length t + 1) l) (omega arith) ∙ ap (entryAt t) (omega arith))
+  entry-at : (k : ℕ) → k ≤ length t → getD (withEntries t l) k 0 ≡ observedOr notARead t k
+  entry-at zero h = refl
+  entry-at (suc k) h =
+      rw (numbers-after t) (getD-after (observedOr notARead t) (length t) 0 k (drop (length t + 1) l) (omega arith) ∙ ap (observedOr notARead t) (omega arith))
 
-  module _ (long : length t < length l) where
-    pub entries-beyond : Beyond (length t) l (withEntries t l)
-    entries-beyond = front-beyond (entries t) l (length t) length-entries long
+  pub entries-filled : length t < length l → Filled (observedOr notARead t) (length t) l (withEntries t l)
+  entries-filled h =
+      let b = front-beyond (entries t) l (length t) length-entries h in
+      let e = b .long in record { table = record { long = omega arith; is = entry-at }; beyond = b }
 
-    -- a list with these entries, and as it was beyond them
-    pub is-entries : {l′ : List ℕ} → ((k : ℕ) → k ≤ length t → getD l′ k 0 ≡ entryOf (observedIn t k)) → Beyond (length t) l l′ → l′ ≡ withEntries t l
-    is-entries {l′} is b =
-        ext-getD 0 l′ (withEntries t l) (b .long ∙ sym (entries-beyond .long))
-        (λ i h.
-        by-cases (ltb (length t) i)
-        (λ e. let m = ltb-true (length t) i e in b .kept i m ∙ sym (entries-beyond .kept i m))
-        (λ e. let m = ltb-false (length t) i e in is i m ∙ sym (getD-entries i m)))
+-- a lent list is filled in one way
+pub filled-one : {f : ℕ → ℕ} {n : ℕ} {l a b : List ℕ} → Filled f n l a → Filled f n l b → a ≡ b
+filled-one {n = n} {a = a} {b = b} p q =
+    ext-getD 0 a b (p .beyond .long ∙ sym (q .beyond .long))
+    (λ i h.
+    by-cases (ltb n i)
+    (λ e. let m = ltb-true n i e in p .beyond .kept i m ∙ sym (q .beyond .kept i m))
+    (λ e. let m = ltb-false n i e in p .table .is i m ∙ sym (q .table .is i m)))

@@ -9,14 +9,14 @@ use Rattle.model.specs.Trace.{Trace, read, kindOf}
 use Rattle.model.specs.Good.{Good}
 use Rattle.model.proofs.Tests.{kind-valid}
 use Rattle.limits.specs.declared.Refusal.the-variants.{ListShort}
-use Rattle.links.specs.Links.{observedOr, Table, Beyond}
+use Rattle.links.specs.Links.{observedOr, Filled}
 use Rattle.observing.specs.Observing.{observedIn}
 use Rattle.observing.specs.Entries.{notARead, answerOf, observationsIn}
 use Rattle.observing.specs.declared.Observed.{Observed}
 use Rattle.observing.specs.declared.Observed.the-variants.{Write, Start, NotARead}
 use Rattle.observing.specs.declared.Observations.the-variants.{Refused, Given}
 use Rattle.observing.proofs.ObservingExact.{some-write}
-use Rattle.observing.proofs.EntriesLaws.{answer-entry, pass-entry, is-entries}
+use Rattle.observing.proofs.EntriesLaws.{pass-answer, entries-filled, filled-one}
 
 -- ---- `answer_of`
 
@@ -42,8 +42,9 @@ module _ (t : Trace) (k : ℕ) where
   above n l h =
       rw (ne-eqb (kindOf t k) read (λ e. let v = kind-valid t k (λ z. omega arith) in let b = v .bounded in let y : ⊥ = omega arith in y))
 
-  pub by-entry : Good t → (l : List ℕ) → Table (observedOr notARead t) (length t) l → (n : ℕ) → n ≡ length t → k ≤ n → (r : Observed) → r ≡ answerOf (getD l k 0) → r ≡ observedIn t k
-  by-entry g l p n e h r q = q ∙ ap answerOf (p .is k (omega arith) ∙ pass-entry t k) ∙ answer-entry t g k (omega arith)
+  module _ (g : Good t) (n : ℕ) (e : n ≡ length t) (h : k ≤ n) where
+    pub by-entry : (l₀ l : List ℕ) → Filled (observedOr notARead t) (length t) l₀ l → (r : Observed) → r ≡ answerOf (getD l k 0) → r ≡ observedIn t k
+    by-entry l₀ l p r q = q ∙ ap answerOf (p .table .is k (omega arith)) ∙ pass-answer t g k (omega arith)
 
 -- ---- `observed_writes_in`
 
@@ -52,8 +53,8 @@ module _ (t : Trace) (l : List ℕ) (n : ℕ) (e : n ≡ length t) where
   unfolding observationsIn
   list-short h = rw (le-ltb (length t) (length l) (omega arith))
 
-  pub list-given : n < length l → (l′ : List ℕ) → Table (observedOr notARead t) (length t) l′ → Beyond (length t) l l′ → (Given n, l′) ≡ observationsIn t l
+  pub list-given : n < length l → (l′ : List ℕ) → Filled (observedOr notARead t) (length t) l l′ → (Given n, l′) ≡ observationsIn t l
   unfolding observationsIn
-  list-given h l′ p b =
+  list-given h l′ p =
       let long : length t < length l = omega arith in
-      rw (lt-ltb (length t) (length l) long, e) (ap (λ (x : List ℕ). (Given (length t), x)) (is-entries t l long (λ k o. p .is k o ∙ pass-entry t k) b))
+      rw (lt-ltb (length t) (length l) long, e) (ap (λ (x : List ℕ). (Given (length t), x)) (filled-one p (entries-filled t l long)))

@@ -7,10 +7,10 @@ use lib.Dec.{eqb, ltb}
 use Rattle.model.specs.Trace.{Trace}
 use Rattle.model.specs.Lists.{numbers}
 use Rattle.limits.specs.declared.Refusal.the-variants.{ListShort}
-use Rattle.links.specs.Links.{Beyond}
-use Rattle.observing.specs.Observing.{ObservedOf, sees, observedIn}
+use Rattle.links.specs.Links.{observedOr, Beyond}
+use Rattle.observing.specs.Observing.{ObservedOf, sees}
 use Rattle.observing.specs.declared.Observed.{Observed}
-use Rattle.observing.specs.declared.Observed.the-variants.{Refused as NotAsked, Write, Start, NotARead}
+use Rattle.observing.specs.declared.Observed.the-variants.{NotARead}
 use Rattle.observing.specs.declared.Observations.{Observations}
 use Rattle.observing.specs.declared.Observations.the-variants.{Refused, Given}
 
@@ -18,14 +18,7 @@ use Rattle.observing.specs.declared.Observations.the-variants.{Refused, 
 abbrev pub notARead : ℕ
 notARead = 65535
 
--- the entry of an answer: the number of a write, 0 for the start (good events are refused nothing)
-unfoldable pub entryOf : Observed → ℕ
-entryOf (Write w) = w
-entryOf Start = 0
-entryOf NotARead = notARead
-entryOf (NotAsked r) = notARead
-
--- the answer that an entry stands for
+-- the answer that an entry stands for: the number of a write, 0 for the start
 unfoldable pub answerOf : ℕ → Observed
 answerOf e = cond (eqb e notARead) NotARead (sees e)
 
@@ -45,7 +38,7 @@ pub data ObservationsOf (t : Trace) (l : List ℕ) : Observations × List ℕ �
 
 -- the entries of the numbers 0 to n
 abbrev pub entries : Trace → List ℕ
-entries t = map (λ k. entryOf (observedIn t k)) (0 ∷ numbers t)
+entries t = map (observedOr notARead t) (0 ∷ numbers t)
 
 -- a lent list with these in its front, and the rest as it was
 abbrev pub withEntries : Trace → List ℕ → List ℕ

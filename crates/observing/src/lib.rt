@@ -23,7 +23,7 @@ pub enum Observations {
 }
 
 // The entry of what is not a read; no event has this number.
-pub const NOT_A_READ: u16 = 65535;
+const NOT_A_READ: u16 = 65535;
 
 // The answer that an entry stands for.
 pub fn answer_of(entry: u16) -> Observed

@@ -4,7 +4,7 @@ use borrow.Author.Needs.{needs}
 use Rattle.format.specs.Bytes.{trace}
 use Rattle.links.specs.Links.{observedOr}
 use Rattle.links.specs.Knows.{LastWrites}
-use Rattle.links.proofs.PassLaws.{Forward, forward-length, forward-beyond, beyond-first, forward-ready, forward-end, observed-start, observed-more}
+use Rattle.links.proofs.PassLaws.{Forward, listed-length, beyond-first, listed-ready, forward-valid, forward-filled, observed-start, observed-more}
 use Rattle.links.proofs.observed_links.Statement.{statement}
 use Rattle.links.proofs.observed_links.Tie as tie
 
@@ -24,9 +24,9 @@ observed-links-spec =
     (λ c κs. search needs)
     (λ c. search needs)
     (λ c. search (observed-start, needs))
-    (λ c κs. search (forward-ready, needs))
+    (λ c κs. search (listed-ready, forward-valid, needs))
     (λ c. search needs)
     (λ c. search needs)
     (λ c. search observed-more)
-    (λ c. search (forward-length, length-set, needs))
-    (λ c. search (forward-end, forward-beyond, beyond-first, needs)))
+    (λ c. search (listed-length, length-set, needs))
+    (λ c. search (forward-filled, beyond-first, needs)))
