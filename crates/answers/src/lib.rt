@@ -1,4 +1,4 @@
-// The answers to questions 2 to 6, as text, and what questions 3 and 4 leave of what they borrow.
+// The answers to questions 2 to 6, as text, and what is left of the lists and areas that they borrow.
 use limits::Refusal;
 use limits::Trace;
 use questions::Check;

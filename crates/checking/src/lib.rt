@@ -25,7 +25,7 @@ pub fn check_in(ev: &[u8], a: u16, b: u16, list: &[u16]) -> Check
     let mut previous = [0u16; Trace::PLACES];
     links::previous_links(ev, &mut previous);
     let mut observed = [0u16; Trace::PLACES];
-    links::observed_links(ev, 0, &mut observed);
+    links::observed_links(ev, &mut observed);
     let fault = reordering::check(ev, &previous, &observed, a, b, list);
     if fault == 0 {
         return Check::Yes;

@@ -123,7 +123,7 @@ pub enum Refusal {
     Object(u16),
     LockHeld(u16),
     NotHolder(u16),
-    // question 3: the lent list; the writer: the buffer, or lists of different lengths
+    // question 3, and question 2 for all events at once: the lent list; the writer: the buffer, or lists of different lengths
     ListShort,
     NotConflicting,
     AreaShort,

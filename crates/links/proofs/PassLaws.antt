@@ -16,10 +16,10 @@ use Rattle.model.specs.Observed.{observed}
 use Rattle.model.specs.Good.{maxThread, maxObject, Good}
 use Rattle.model.proofs.Tests.{by-cases, in-cons, true-is, false-is, true-does, false-does, does-true, false-test}
 use Rattle.model.proofs.Lists.{before-mem}
-use Rattle.links.specs.Links.{previous, observedOr, Table, Beyond, Filled, Room}
+use Rattle.links.specs.Links.{previous, observedOr, Table, Beyond, Filled, RoomFor, Room}
 use Rattle.linking.specs.Step.{Ready, Stepped}
 use Rattle.links.specs.Knows.{LastWrites}
-use Rattle.links.proofs.TableLaws.{table-new, table-same, table-put}
+use Rattle.links.proofs.TableLaws.{table-new, table-same, table-put, room-for}
 
 -- ---- the list of links
 
@@ -74,9 +74,9 @@ module _ {f : ℕ → ℕ} {n : ℕ} {out₀ h out : List ℕ} (p : Listed f n o
   pub listed-length : (o : List ℕ) → length out₀ ≡ length o → length out ≡ length o
   listed-length o e = p .beyond .long ∙ e
 
--- an event of the trace may take a step
-pub listed-ready : {f : ℕ → ℕ} {t : Trace} {k : ℕ} {out₀ h out : List ℕ} → Listed f (length t) out₀ h out → Good t → Valid t k → (asks gives : ℕ) → asks < gives → Ready t k asks gives out
-listed-ready p g v asks gives l = record { good = g; valid = v; apart = l; long = p .long }
+  -- an event of the trace may take a step
+  pub listed-ready : {t : Trace} {k : ℕ} → Good t → Valid t k → k ≤ n → (asks gives : ℕ) → asks < gives → Ready t k asks gives out
+  listed-ready g v l asks gives h = let b = p .long in record { good = g; valid = v; apart = h; long = omega arith }
 
 -- ---- the table of the last events
 
@@ -113,22 +113,22 @@ module _ {t : Trace} (good : Good t) {k : ℕ} (v : Valid t k) {asks gives other
       let te : table′ ≡ table = s .taken ∙ rw e in
       rw te (nearest-same (does t gives) h p k (λ c. false-does t gives c k (eqb-false _ _ e))))
 
-  pub step-listed : {f : ℕ → ℕ} {out₀ : List ℕ} → Listed f (length t) out₀ h out → f k ≡ linkOf t asks gives other h k → Listed f (length t) out₀ (k ∷ h) out′
+  pub step-listed : {f : ℕ → ℕ} {n : ℕ} {out₀ : List ℕ} → Listed f n out₀ h out → k ≤ n → f k ≡ linkOf t asks gives other h k → Listed f n out₀ (k ∷ h) out′
   unfolding linkOf
-  step-listed l ef =
+  step-listed l m ef =
       let link : ℕ → ℕ = λ w. cond (eqb (kindOf t k) asks) w other in
-      rw (s .linked) (listed-more l (v .positive) (v .bounded) (link (getD table (objectOf t k) 0)) (ap link (p .is (objectOf t k) (good .object-limit k v)) ∙ sym ef))
+      rw (s .linked) (listed-more l (v .positive) m (link (getD table (objectOf t k) 0)) (ap link (p .is (objectOf t k) (good .object-limit k v)) ∙ sym ef))
 
 -- ---- forwards
 
--- the events before k have passed: what the table knows, and the list
+-- of the first n events those before k have passed: what the table knows, and the list
 pub record Forward (t : Trace) (Knows : ℕ → List ℕ → Type 0) (f : ℕ → ℕ) (n k : ℕ) (out₀ table out : List ℕ) : Type 0 where
   pub good : Good t
-  pub all : n ≡ length t
+  pub few : n ≤ length t
   pub low : 1 ≤ k
   pub high : k ≤ n + 1
   pub knows : Knows k table
-  pub listed : Listed f (length t) out₀ (before k) out
+  pub listed : Listed f n out₀ (before k) out
 
 next-before : (k : ℕ) → 1 ≤ k → k ∷ before k ≡ before (k + 1)
 next-before zero p = absurd (omega arith)
@@ -137,31 +137,30 @@ next-before (suc k) p = ap before (sym (add-one (suc k)))
 nearest-next : (test : ℕ → ℕ → Bool) {size : ℕ} (k : ℕ) {table : List ℕ} → 1 ≤ k → Nearest test size (k ∷ before k) table → Nearest test size (before (k + 1)) table
 nearest-next test {size} k {table} p = subst (λ (h : List ℕ). Nearest test size h table) (next-before k p)
 
-module _ {t : Trace} {Knows : ℕ → List ℕ → Type 0} {f : ℕ → ℕ} where
-  forward-start : {out : List ℕ} → Room t out → (n : ℕ) → n ≡ length t → (v : ℕ) → v ≡ f 0 → (table : List ℕ) → Knows 1 table
-      → Forward t Knows f n 1 (set out 0 v) table (set out 0 v)
-  forward-start {out} r n e v ev table kn =
-      record { good = r .good; all = e; low = omega arith; high = omega arith; knows = kn; listed = listed-start f out v (r .long) ev }
+module _ {t : Trace} {Knows : ℕ → List ℕ → Type 0} {f : ℕ → ℕ} {n : ℕ} where
+  forward-start : {out : List ℕ} → RoomFor t n out → (v : ℕ) → v ≡ f 0 → (table : List ℕ) → Knows 1 table → Forward t Knows f n 1 (set out 0 v) table (set out 0 v)
+  forward-start {out} r v ev table kn =
+      record { good = r .good; few = r .few; low = omega arith; high = omega arith; knows = kn; listed = listed-start f out v (r .long) ev }
 
-  module _ {n k : ℕ} {out₀ table out : List ℕ} (p : Forward t Knows f n k out₀ table out) where
-    pub forward-end : n < k → Table f (length t) out
-    forward-end h = let e = p .all in listed-end (p .listed) (λ j u v. before-mem k j u (omega arith))
+  module _ {k : ℕ} {out₀ table out : List ℕ} (p : Forward t Knows f n k out₀ table out) where
+    pub forward-end : n < k → Table f n out
+    forward-end h = listed-end (p .listed) (λ j u v. before-mem k j u (omega arith))
 
-    pub forward-filled : n < k → (o : List ℕ) → Beyond (length t) o out₀ → Filled f (length t) o out
+    pub forward-filled : n < k → (o : List ℕ) → Beyond n o out₀ → Filled f n o out
     forward-filled h o b =
         let c = p .listed .beyond in
         record { table = forward-end h; beyond = record { long = c .long ∙ b .long; kept = λ j l. c .kept j l ∙ b .kept j l } }
 
     module _ (h : k ≤ n) where
-      forward-more : {table′ out′ : List ℕ} → Knows (k + 1) table′ → Listed f (length t) out₀ (k ∷ before k) out′ → Forward t Knows f n (k + 1) out₀ table′ out′
+      forward-more : {table′ out′ : List ℕ} → Knows (k + 1) table′ → Listed f n out₀ (k ∷ before k) out′ → Forward t Knows f n (k + 1) out₀ table′ out′
       forward-more kn l =
-          record { good = p .good; all = p .all; low = omega arith; high = omega arith; knows = kn; listed = rw (next-before k (p .low)) at l }
+          record { good = p .good; few = p .few; low = omega arith; high = omega arith; knows = kn; listed = rw (next-before k (p .low)) at l }
 
       pub forward-valid : Valid t k
-      forward-valid = record { positive = p .low; bounded = let e = p .all in omega arith }
+      forward-valid = record { positive = p .low; bounded = let e = p .few in omega arith }
 
       pub forward-place : k < length out
-      forward-place = let e = p .all in let a = p .listed .long in omega arith
+      forward-place = let a = p .listed .long in omega arith
 
       pub forward-thread : (b c : ℕ) → b ≡ threadOf t k → c ≡ b → c < maxThread + 1
       forward-thread b c e d = let z = p .good .thread-limit k forward-valid in omega arith
@@ -179,30 +178,29 @@ LastEvents t k table = Nearest (byThread t) maxThread (before k) table
 pub previous-start : {t : Trace} {out : List ℕ} → Room t out → (n : ℕ) → n ≡ length t
     → Forward t (LastEvents t) (previous t) n 1 (set out 0 0) (replicate (maxThread + 1) 0) (set out 0 0)
 unfolding previous
-previous-start r n e = forward-start r n e 0 refl _ (table-new _ maxThread (λ c. refl))
+previous-start {t} r n e = forward-start (room-for t n e r) 0 refl _ (table-new _ maxThread (λ c. refl))
 
 pub previous-more : {t : Trace} {n k : ℕ} {out₀ last out : List ℕ} → Forward t (LastEvents t) (previous t) n k out₀ last out → k ≤ n → (b c : ℕ) → b ≡ threadOf t k → c ≡ b
     → Forward t (LastEvents t) (previous t) n (k + 1) out₀ (set last c k) (set out k (getD last c 0))
 unfolding previous
 previous-more {t} {k = k} {last = last} p h b c eb ec =
-    let v = forward-valid p h in
     let e : c ≡ threadOf t k = ec ∙ eb in
     let l : c ≤ maxThread = let z = forward-thread p h b c eb ec in omega arith in
     forward-more p h
     (nearest-next (byThread t) k (p .low)
     (nearest-put (byThread t) (before k) (p .knows) k c l (true-is c (threadOf t k) (sym e)) (λ d ne. false-is d (threadOf t k) (λ q. ne (sym q ∙ sym e)))))
-    (listed-more (p .listed) (v .positive) (v .bounded) (getD last c 0) (p .knows .is c l ∙ rw e))
+    (listed-more (p .listed) (p .low) h (getD last c 0) (p .knows .is c l ∙ rw e))
 
--- ---- `observed_links`
+-- ---- `observe`
 
-pub observed-start : {t : Trace} {out : List ℕ} → Room t out → (n : ℕ) → n ≡ length t → (other : ℕ)
+pub observe-start : {t : Trace} {n : ℕ} {out : List ℕ} → RoomFor t n out → (other : ℕ)
     → Forward t (LastWrites t) (observedOr other t) n 1 (set out 0 other) (replicate (maxObject + 1) 0) (set out 0 other)
 unfolding observedOr
-observed-start r n e other = forward-start r n e other refl _ (table-new _ maxObject (λ c. refl))
+observe-start r other = forward-start r other refl _ (table-new _ maxObject (λ c. refl))
 
-pub observed-more : {t : Trace} {other n k : ℕ} {out₀ last out last′ out′ : List ℕ} → Forward t (LastWrites t) (observedOr other t) n k out₀ last out → k ≤ n
+pub observe-more : {t : Trace} {other n k : ℕ} {out₀ last out last′ out′ : List ℕ} → Forward t (LastWrites t) (observedOr other t) n k out₀ last out → k ≤ n
     → Stepped t k read write other last out last′ out′ → Forward t (LastWrites t) (observedOr other t) n (k + 1) out₀ last′ out′
 unfolding observedOr observed linkOf
-observed-more {t} {k = k} p h s =
+observe-more {t} {k = k} p h s =
     let v = forward-valid p h in
-    forward-more p h (nearest-next (does t write) k (p .low) (step-knows (p .good) v (before k) (p .knows) s)) (step-listed (p .good) v (before k) (p .knows) s (p .listed) refl)
+    forward-more p h (nearest-next (does t write) k (p .low) (step-knows (p .good) v (before k) (p .knows) s)) (step-listed (p .good) v (before k) (p .knows) s (p .listed) h refl)

@@ -83,6 +83,9 @@ module _ {t : Trace} {k : ℕ} {out₀ table out : List ℕ} (p : Backward t k o
   pub backward-valid : 0 < k → Valid t k
   backward-valid h = record { positive = h; bounded = let e = p .all in omega arith }
 
+  pub backward-most : k ≤ length t
+  backward-most = let e = p .all in omega arith
+
   release-link : releaseOf t k ≡ linkOf t acquire release 0 (after k (p .past)) k
   unfolding releaseOf linkOf
   release-link =
@@ -103,5 +106,5 @@ backward-more {k = suc k} p h s =
       past = suc (p .past);
       all = omega arith;
       knows = step-knows (p .good) v (after (suc k) (p .past)) (p .knows) s;
-      listed = step-listed (p .good) v (after (suc k) (p .past)) (p .knows) s (p .listed) (release-link p);
+      listed = step-listed (p .good) v (after (suc k) (p .past)) (p .knows) s (p .listed) (v .bounded) (release-link p);
     })

@@ -11,7 +11,7 @@ use borrow.Author.Tests.{eqb-true, eqb-false}
 use Rattle.model.specs.Trace.{Trace}
 use Rattle.model.specs.Good.{Good, maxEvents}
 use Rattle.model.proofs.Tests.{by-cases}
-use Rattle.links.specs.Links.{Table, Room, Rooms}
+use Rattle.links.specs.Links.{Table, RoomFor, Room, Rooms}
 
 pub table-new : (f : ℕ → ℕ) (n : ℕ) → ((x : ℕ) → f x ≡ 0) → Table f n (replicate (n + 1) 0)
 table-new f n z =
@@ -36,7 +36,15 @@ module _ {f : ℕ → ℕ} {n : ℕ} {l : List ℕ} (p : Table f n l) (g : ℕ �
 
 -- room for a table of links, and for all three
 pub table-room : (t : Trace) → Good t → (l : List ℕ) → length l ≡ maxEvents + 1 → Room t l
-table-room t g l e = let s = g .size in record { good = g; long = omega arith }
+table-room t g l e = let s = g .size in record { good = g; few = omega arith; long = omega arith }
 
 pub tables-room : (t : Trace) → Good t → (prev obs rel : List ℕ) → length prev ≡ maxEvents + 1 → length obs ≡ maxEvents + 1 → length rel ≡ maxEvents + 1 → Rooms t prev obs rel
 tables-room t g prev obs rel e f h = record { earlier = table-room t g prev e; seen = table-room t g obs f; closing = table-room t g rel h }
+
+-- the number of events, as it was counted
+module _ (t : Trace) (n : ℕ) (e : n ≡ length t) where
+  pub room-for : {out : List ℕ} → Room t out → RoomFor t n out
+  room-for r = rw e r
+
+  pub table-all : {f : ℕ → ℕ} {out : List ℕ} → Table f n out → Table f (length t) out
+  table-all p = rw e at p

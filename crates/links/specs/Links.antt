@@ -48,10 +48,15 @@ pub record Linked (t : Trace) (prev obs rel : List ℕ) : Type 0 where
   pub seen : Table (observedBy t) (length t) obs
   pub closing : Table (releaseOf t) (length t) rel
 
--- a good trace, and room for a table of its links
-pub record Room (t : Trace) (out : List ℕ) : Type 0 where
+-- a good trace, and room for a table of the links of its first n events
+pub record RoomFor (t : Trace) (n : ℕ) (out : List ℕ) : Type 0 where
   pub good : Good t
-  pub long : length t < length out
+  pub few : n ≤ length t
+  pub long : n < length out
+
+-- room for those of all its events
+abbrev pub Room : Trace → List ℕ → Type 0
+Room t out = RoomFor t (length t) out
 
 -- room for all three tables
 pub record Rooms (t : Trace) (prev obs rel : List ℕ) : Type 0 where

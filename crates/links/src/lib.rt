@@ -5,7 +5,7 @@ use limits::Thread;
 use linking::OBJECTS;
 ghost use lib.ListN.{length};
 ghost use Rattle.format.specs.Bytes.{trace};
-ghost use Rattle.links.specs.Links.{previous, observedOr, releaseOf, Table, Filled, Linked, Room, Rooms};
+ghost use Rattle.links.specs.Links.{previous, observedOr, observedBy, releaseOf, Table, Filled, Linked, RoomFor, Room, Rooms};
 
 const THREADS: usize = Thread::MAX as usize + 1;
 
@@ -26,13 +26,12 @@ pub fn previous_links(ev: &[u8], out: &mut [u16])
     }
 }
 
-// The observed write of each read, 0 for the start, and `other` for every other event: the last write of each cell, as the events pass.
-// The places beyond the events are left as they are.
-pub fn observed_links(ev: &[u8], other: u16, out: &mut [u16])
-    requires { ⌜ Room (trace (now ev)) (now out) ⌝ }
-    ensures { λ _. ⌜ Filled (observedOr other (trace (now (ev .entry)))) (length (trace (now (ev .entry)))) (now (out .entry)) (now (out .exit)) ⌝ }
+// The first n events pass: the observed write of each read, 0 for the start, and `other` for every other event, by the last write of each
+// cell so far. The places beyond n are left as they are.
+pub fn observe(ev: &[u8], n: usize, other: u16, out: &mut [u16])
+    requires { ⌜ RoomFor (trace (now ev)) n (now out) ⌝ }
+    ensures { λ _. ⌜ Filled (observedOr other (trace (now (ev .entry)))) n (now (out .entry)) (now (out .exit)) ⌝ }
 {
-    let n = format::count(ev);
     let mut last = [0u16; OBJECTS];
     out[0] = other;
     let mut k = 1;
@@ -40,6 +39,14 @@ pub fn observed_links(ev: &[u8], other: u16, out: &mut [u16])
         linking::link_event(ev, k, Event::READ, Event::WRITE, other, &mut last, out);
         k += 1;
     }
+}
+
+// The observed write of each read.
+pub fn observed_links(ev: &[u8], out: &mut [u16])
+    requires { ⌜ Room (trace (now ev)) (now out) ⌝ }
+    ensures { λ _. ⌜ Table (observedBy (trace (now (ev .entry)))) (length (trace (now (ev .entry)))) (now (out .exit)) ⌝ }
+{
+    observe(ev, format::count(ev), 0, out);
 }
 
 // The matching release of each acquire: the next release of each lock, as the events pass backwards.
@@ -63,6 +70,6 @@ pub fn build(ev: &[u8], previous: &mut [u16], observed: &mut [u16], released: &m
     ensures { λ _. ⌜ Linked (trace (now (ev .entry))) (now (previous .exit)) (now (observed .exit)) (now (released .exit)) ⌝ }
 {
     previous_links(ev, previous);
-    observed_links(ev, 0, observed);
+    observed_links(ev, observed);
     release_links(ev, released);
 }

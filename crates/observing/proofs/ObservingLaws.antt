@@ -42,9 +42,8 @@ module _ (t : Trace) (k : ℕ) where
   above n l h =
       rw (ne-eqb (kindOf t k) read (λ e. let v = kind-valid t k (λ z. omega arith) in let b = v .bounded in let y : ⊥ = omega arith in y))
 
-  module _ (g : Good t) (n : ℕ) (e : n ≡ length t) (h : k ≤ n) where
-    pub by-entry : (l₀ l : List ℕ) → Filled (observedOr notARead t) (length t) l₀ l → (r : Observed) → r ≡ answerOf (getD l k 0) → r ≡ observedIn t k
-    by-entry l₀ l p r q = q ∙ ap answerOf (p .table .is k (omega arith)) ∙ pass-answer t g k (omega arith)
+  pub by-entry : Good t → (n : ℕ) → n ≡ length t → k ≤ n → (l₀ l : List ℕ) → Filled (observedOr notARead t) k l₀ l → (r : Observed) → r ≡ answerOf (getD l k 0) → r ≡ observedIn t k
+  by-entry g n e h l₀ l p r q = q ∙ ap answerOf (p .table .is k (omega arith)) ∙ pass-answer t g k (omega arith)
 
 -- ---- `observed_writes_in`
 
@@ -53,8 +52,8 @@ module _ (t : Trace) (l : List ℕ) (n : ℕ) (e : n ≡ length t) where
   unfolding observationsIn
   list-short h = rw (le-ltb (length t) (length l) (omega arith))
 
-  pub list-given : n < length l → (l′ : List ℕ) → Filled (observedOr notARead t) (length t) l l′ → (Given n, l′) ≡ observationsIn t l
+  pub list-given : n < length l → (l′ : List ℕ) → Filled (observedOr notARead t) n l l′ → (Given n, l′) ≡ observationsIn t l
   unfolding observationsIn
   list-given h l′ p =
       let long : length t < length l = omega arith in
-      rw (lt-ltb (length t) (length l) long, e) (ap (λ (x : List ℕ). (Given (length t), x)) (filled-one p (entries-filled t l long)))
+      rw (lt-ltb (length t) (length l) long, e) (ap (λ (x : List ℕ). (Given (length t), x)) (filled-one (rw e at p) (entries-filled t l long)))

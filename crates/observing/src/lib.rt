@@ -1,5 +1,5 @@
 // Question 2 on the events of a good file: which write does an event see? Asked for one event, or for all of them at once; either way
-// the events pass once, from the first on.
+// the events pass once, from the first on: those up to that event, or all.
 use limits::Refusal;
 use limits::Trace;
 ghost use mathlib.Core.Path.{_≡_};
@@ -48,7 +48,7 @@ pub fn observed_in(ev: &[u8], k: u16) -> Observed
         return Observed::NotARead;
     }
     let mut entries = [0u16; Trace::PLACES];
-    links::observed_links(ev, NOT_A_READ, &mut entries);
+    links::observe(ev, at, NOT_A_READ, &mut entries);
     answer_of(entries[at])
 }
 
@@ -61,6 +61,6 @@ pub fn observed_writes_in(ev: &[u8], list: &mut [u16]) -> Observations
     if list.len() <= n {
         return Observations::Refused(Refusal::ListShort);
     }
-    links::observed_links(ev, NOT_A_READ, list);
+    links::observe(ev, n, NOT_A_READ, list);
     Observations::Given(n as u16)
 }

@@ -3,6 +3,7 @@ use lib.ListN.{length-set}
 use borrow.Author.Needs.{needs}
 use Rattle.format.specs.Bytes.{trace}
 use Rattle.links.specs.Links.{previous}
+use Rattle.links.proofs.TableLaws.{table-all}
 use Rattle.links.proofs.PassLaws.{Forward, LastEvents, listed-length, forward-end, forward-valid, forward-thread, forward-place, previous-start, previous-more}
 use Rattle.links.proofs.previous_links.Statement.{statement}
 use Rattle.links.proofs.previous_links.Tie as tie
@@ -35,4 +36,4 @@ previous-links-spec =
     (λ c. search needs)
     (λ c. search previous-more)
     (λ c. search (listed-length, length-set, needs))
-    (λ c. search (forward-end, needs)))
+    (λ c. search (table-all, forward-end, needs)))

@@ -2,7 +2,7 @@ use lib.ListN.{length-set}
 use borrow.Author.Needs.{needs}
 use Rattle.format.specs.Bytes.{trace}
 use Rattle.links.proofs.PassLaws.{listed-length, listed-ready}
-use Rattle.links.proofs.ReleaseLaws.{Backward, backward-start, backward-valid, backward-more, backward-end}
+use Rattle.links.proofs.ReleaseLaws.{Backward, backward-start, backward-valid, backward-most, backward-more, backward-end}
 use Rattle.links.proofs.release_links.Statement.{statement}
 use Rattle.links.proofs.release_links.Tie as tie
 
@@ -21,7 +21,7 @@ release-links-spec =
     (λ c. search needs)
     (λ c κs. search needs)
     (λ c. search (backward-start, needs))
-    (λ c κs. search (listed-ready, backward-valid, needs))
+    (λ c κs. search (listed-ready, backward-valid, backward-most, needs))
     (λ c. search needs)
     (λ c. search needs)
     (λ c. search (backward-more, needs))
