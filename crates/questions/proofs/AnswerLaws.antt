@@ -1,5 +1,5 @@
 -- The ways through the questions.
-use Prim.Native.Nat.{ℕ, _+_}
+use Prim.Native.Nat.{ℕ}
 use mathlib.Core.Path.{_≡_}
 use mathlib.Core.List.{List}
 use lib.ListN.{length}
@@ -17,12 +17,12 @@ use Rattle.judging.proofs.FileLaws.{judged-refused, judged-clean, judged-number
 use Rattle.observing.specs.Observing.{observedIn}
 use Rattle.observing.specs.Entries.{observationsIn}
 use Rattle.questions.specs.Answers.{answerJudge, answerObserved}
-use Rattle.questions.specs.Observations.{answerObservations, counted}
+use Rattle.questions.specs.Observations.{answerObservations}
 use Rattle.questions.specs.declared.Judgement.the-variants.{Refused as Judged, Good as GoodWith}
 use Rattle.observing.specs.declared.Observed.{Observed}
 use Rattle.observing.specs.declared.Observed.the-variants.{Refused as NotAsked}
 use Rattle.observing.specs.declared.Observations.{Observations}
-use Rattle.observing.specs.declared.Observations.the-variants.{Refused as NotGiven, Given}
+use Rattle.observing.specs.declared.Observations.the-variants.{Refused as NotGiven}
 
 module _ (s : List ℕ) (f : File) (is : f ≡ fileOf s (fileRefusal eventBytes s)) where
   module _ (r : Refusal) (e : f ≡ FileRefused r) where
@@ -51,12 +51,3 @@ module _ (s : List ℕ) (f : File) (is : f ≡ fileOf s (fileRefusal eventBytes 
       pub good-observations : (l : List ℕ) (o : Observations × List ℕ) → o ≡ observationsIn (trace ev) l → o ≡ answerObservations s l
       unfolding answerObservations
       good-observations l o c = rw (judged-clean s f is t e, ← part-trace s ev part) c
-
--- ---- for other languages: what is counted of an answer x and the list l after it
-
-module _ (x : Observations) (l : List ℕ) (a : Observations × List ℕ) (is : (x, l) ≡ a) where
-  pub none-counted : (r : Refusal) → x ≡ NotGiven r → (0, l) ≡ counted a
-  none-counted r e = rw (← is, e)
-
-  pub some-counted : (n : ℕ) → x ≡ Given n → (m : ℕ) → m ≡ n + 1 → (m, l) ≡ counted a
-  some-counted n e m q = rw (← is, e, q)

@@ -1,5 +1,5 @@
 -- Question 2 for all events at once: the answer, and the lent list after it.
-use Prim.Native.Nat.{ℕ, _+_}
+use Prim.Native.Nat.{ℕ}
 use mathlib.Core.Path.{_≡_}
 use mathlib.Core.Bool.{cond}
 use mathlib.Core.Option.{Option, none, some}
@@ -34,8 +34,3 @@ answerObservations s l = observationsBy (fileRefusal eventBytes s) (events event
 abbrev pub OneByOne : List ℕ → Observations × List ℕ → Type 0
 OneByOne s (Refused r, l) = Unit {0}
 OneByOne s (Given n, l) = (k : ℕ) → answerObserved s k ≡ cond (leb k n) (answerOf (getD l k 0)) NotARead
-
--- the number of entries in place of the answer, 0 for a refusal
-abbrev pub counted : Observations × List ℕ → ℕ × List ℕ
-counted (Refused r, l) = (0, l)
-counted (Given n, l) = (n + 1, l)

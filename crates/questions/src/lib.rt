@@ -18,7 +18,7 @@ ghost use Rattle.model.specs.Good.{Good};
 ghost use Rattle.model.specs.Decision.{nextRace};
 ghost use Rattle.format.specs.Bytes.{trace};
 ghost use Rattle.questions.specs.Answers.{answerJudge, answerObserved};
-ghost use Rattle.questions.specs.Observations.{answerObservations, counted};
+ghost use Rattle.questions.specs.Observations.{answerObservations};
 ghost use Rattle.questions.specs.Verdicts.{answerVerdict, nextIn, answerNext, answerCheck};
 ghost use Rattle.questions.specs.Searching.{Searchable, Finds};
 
@@ -68,17 +68,6 @@ pub fn observed_writes(file: &[u8], list: &mut [u16]) -> Observations
     match judging::judge(file) {
         File::Refused(r) => Observations::Refused(r),
         File::Good(t) => observing::observed_writes_in(format::events(file, t), list),
-    }
-}
-
-// The same for other languages: how many entries are answers; 0 where the file or the list is refused.
-#[no_mangle]
-pub extern "C" fn tarungkis_observed_writes(file: &[u8], list: &mut [u16]) -> usize
-    ensures { λ r. ⌜ (r, now (list .exit)) ≡ counted (answerObservations (now (file .entry)) (now (list .entry))) ⌝ }
-{
-    match observed_writes(file, list) {
-        Observations::Refused(_) => 0,
-        Observations::Given(n) => n as usize + 1,
     }
 }
 

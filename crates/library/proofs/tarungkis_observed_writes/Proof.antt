@@ -1,7 +1,7 @@
 use borrow.Author.Needs.{needs}
-use Rattle.questions.proofs.AnswerLaws.{none-counted, some-counted}
-use Rattle.questions.proofs.tarungkis_observed_writes.Statement.{statement}
-use Rattle.questions.proofs.tarungkis_observed_writes.Tie as tie
+use Rattle.library.proofs.CountedLaws.{none-counted, some-counted}
+use Rattle.library.proofs.tarungkis_observed_writes.Statement.{statement}
+use Rattle.library.proofs.tarungkis_observed_writes.Tie as tie
 
 pub tarungkis-observed-writes-spec : {M : Type 1} → statement M
 tarungkis-observed-writes-spec =
@@ -13,6 +13,6 @@ tarungkis-observed-writes-spec =
     (λ c. search needs)
     (λ c. search needs)
     (λ c. search needs)
-    (λ c. search (none-counted, needs))
+    (λ c. search none-counted)
     (λ c. search needs)
     (λ c. search (some-counted, needs)))

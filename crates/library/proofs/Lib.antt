@@ -1,0 +1,2 @@
+-- The ways through the count
+pub mod CountedLaws

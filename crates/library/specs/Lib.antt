@@ -1,0 +1,2 @@
+-- What the static library gives to other languages.
+pub mod Counted
