@@ -24,7 +24,7 @@ fn report_by(program: &str, file: &[u8]) -> Vec<u8> {
 fn main() {
     let program = std::env::args().nth(1).expect("use: compare PROGRAM");
     let mut text = Vec::new();
-    for family in Family::all() {
+    for family in Family::all().into_iter().chain(Family::deep()) {
         for n in [128, 512] {
             let file = family.recording(n, 1);
             plain::report(&file, &mut text);

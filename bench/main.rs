@@ -156,6 +156,23 @@ fn observed_writes_row(n: usize) -> String {
     )
 }
 
+const COLUMNS: &str =
+    "conflicting pairs | races | report, KiB | plain Rust, ms | proved, ms | ratio";
+
+/// A row for each family, and one for all of them.
+fn table(families: Vec<Family>, n: usize, text: &mut Vec<u8>, out: &mut [u8]) -> Total {
+    println!("threads | cells | locks | {COLUMNS}");
+    println!("--- | --- | --- | --- | --- | --- | --- | --- | ---");
+    let mut all = Total::default();
+    for f in families {
+        let total = family(f, n, text, out);
+        println!("{} | {}", f.name(), total.row());
+        all.add(total);
+    }
+    println!("all | | | {}\n", all.row());
+    all
+}
+
 fn main() {
     let mut text = Vec::new();
     let mut out = vec![0; 1 << 28];
@@ -165,20 +182,11 @@ fn main() {
     let mut growth = Vec::new();
     for n in [128, 256, 512] {
         println!("{n} events\n");
-        println!("threads | cells | locks | conflicting pairs | races | report, KiB | plain Rust, ms | proved, ms | ratio");
-        println!("--- | --- | --- | --- | --- | --- | --- | --- | ---");
-        let mut all = Total::default();
-        for f in Family::all() {
-            let total = family(f, n, &mut text, &mut out);
-            println!("{} | {}", f.name(), total.row());
-            all.add(total);
-        }
-        println!("all | | | {}\n", all.row());
-        growth.push((n, all));
+        growth.push((n, table(Family::all(), n, &mut text, &mut out)));
     }
-    println!(
-        "events | conflicting pairs | races | report, KiB | plain Rust, ms | proved, ms | ratio"
-    );
+    println!("512 events, locks taken again while held\n");
+    table(Family::deep(), 512, &mut text, &mut out);
+    println!("events | {COLUMNS}");
     println!("--- | --- | --- | --- | --- | --- | ---");
     for (n, all) in growth {
         println!("{n} | {}", all.row());

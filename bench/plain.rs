@@ -49,33 +49,32 @@ fn parse(file: &[u8]) -> Option<Vec<Event>> {
 }
 
 fn well_formed(events: &[Event]) -> bool {
-    let mut holder = [None; 256];
+    // who holds each lock, and how deep
+    let mut holds: [Option<(u8, usize)>; 256] = [None; 256];
     for e in &events[1..] {
         if e.kind == 0 || e.kind > 4 || e.thread > 15 || e.object > 255 {
             return false;
         }
         let lock = e.object as usize;
-        if e.kind == ACQUIRE {
-            if holder[lock].is_some() {
-                return false;
-            }
-            holder[lock] = Some(e.thread);
-        }
-        if e.kind == RELEASE {
-            if holder[lock] != Some(e.thread) {
-                return false;
-            }
-            holder[lock] = None;
+        match (e.kind, holds[lock]) {
+            (ACQUIRE, None) => holds[lock] = Some((e.thread, 1)),
+            (ACQUIRE, Some((t, depth))) if t == e.thread => holds[lock] = Some((t, depth + 1)),
+            (RELEASE, Some((t, 1))) if t == e.thread => holds[lock] = None,
+            (RELEASE, Some((t, depth))) if t == e.thread => holds[lock] = Some((t, depth - 1)),
+            (ACQUIRE | RELEASE, _) => return false,
+            _ => {}
         }
     }
     true
 }
 
-/// For each event the one before it in its thread, a read's observed write, an acquire's release; 0 for none.
+/// For each event the one before it in its thread, a read's observed write, an outermost acquire's last release; 0 for
+/// none. `counts`: is it an outermost acquire or a last release?
 struct Links {
     previous: Vec<usize>,
     observed: Vec<usize>,
     released: Vec<usize>,
+    counts: Vec<bool>,
 }
 
 fn links(events: &[Event]) -> Links {
@@ -84,10 +83,12 @@ fn links(events: &[Event]) -> Links {
         previous: vec![0; places],
         observed: vec![0; places],
         released: vec![0; places],
+        counts: vec![false; places],
     };
     let mut last_of_thread = [0; 16];
     let mut last_write = [0; 256];
     let mut acquired = [0; 256];
+    let mut depth = [0; 256];
     for k in 1..places {
         let e = events[k];
         let object = e.object as usize;
@@ -96,8 +97,20 @@ fn links(events: &[Event]) -> Links {
         match e.kind {
             READ => l.observed[k] = last_write[object],
             WRITE => last_write[object] = k,
-            ACQUIRE => acquired[object] = k,
-            _ => l.released[acquired[object]] = k,
+            ACQUIRE => {
+                if depth[object] == 0 {
+                    acquired[object] = k;
+                    l.counts[k] = true;
+                }
+                depth[object] += 1;
+            }
+            _ => {
+                depth[object] -= 1;
+                if depth[object] == 0 {
+                    l.released[acquired[object]] = k;
+                    l.counts[k] = true;
+                }
+            }
         }
     }
     l
@@ -157,6 +170,7 @@ fn cone(events: &[Event], l: &Links, a: usize, b: usize) -> Vec<bool> {
 struct Search<'a> {
     events: &'a [Event],
     observed: &'a [usize],
+    counts: &'a [bool],
     moved: u8,
     p: Vec<usize>,
     q: Vec<usize>,
@@ -168,11 +182,12 @@ impl Search<'_> {
         self.events[k].kind == kind && self.events[k].object == object
     }
 
+    /// Nobody holds the lock after what was passed: of what counts on it, the last was a release.
     fn lock_free(&self, passed: &[usize], lock: u16) -> bool {
         let last = passed
             .iter()
             .rev()
-            .find(|&&k| self.is(k, ACQUIRE, lock) || self.is(k, RELEASE, lock));
+            .find(|&&k| self.counts[k] && self.events[k].object == lock);
         last.is_none_or(|&k| self.events[k].kind == RELEASE)
     }
 
@@ -212,7 +227,10 @@ impl Search<'_> {
                         .reads_ahead(&own[i + 1..], object)
                         .all(|r| !other[..j].contains(&self.observed[r]))
             }
-            ACQUIRE => self.lock_free(&own[..i], object) && self.lock_free(&other[..j], object),
+            ACQUIRE => {
+                !self.counts[k]
+                    || self.lock_free(&own[..i], object) && self.lock_free(&other[..j], object)
+            }
             _ => true,
         }
     }
@@ -253,6 +271,7 @@ fn witness(events: &[Event], l: &Links, a: usize, b: usize) -> Option<Vec<usize>
     let mut search = Search {
         events,
         observed: &l.observed,
+        counts: &l.counts,
         moved,
         p,
         q,

@@ -1,5 +1,5 @@
 //! Seeded recordings of a given length: well-formed, by so many threads, with few or many cells and sparse or
-//! dense locks.
+//! dense locks, or dense ones that are taken again while held.
 
 /// xorshift64*: the same numbers on every machine.
 pub struct Random(u64);
@@ -18,29 +18,43 @@ impl Random {
     }
 }
 
+#[derive(Clone, Copy, PartialEq)]
+pub enum Locks {
+    Sparse,
+    Dense,
+    /// Dense, and taken again while held.
+    Deep,
+}
+
 #[derive(Clone, Copy)]
 pub struct Family {
     pub threads: u64,
     pub cells: u64,
-    pub dense: bool,
+    pub locks: Locks,
 }
+
+/// The lock that a thread holds, and how deep.
+type Hold = Option<(u64, usize)>;
 
 impl Family {
     pub fn name(self) -> String {
-        let locks = if self.dense { "dense" } else { "sparse" };
+        let locks = match self.locks {
+            Locks::Sparse => "sparse",
+            Locks::Dense => "dense",
+            Locks::Deep => "deep",
+        };
         format!("{} | {} | {locks}", self.threads, self.cells)
     }
 
-    /// The family of recordings: 2, 4 and 8 threads, 4 and 64 cells, sparse and dense locks.
-    pub fn all() -> Vec<Family> {
+    fn with(locks: &[Locks]) -> Vec<Family> {
         let mut all = Vec::new();
         for threads in [2, 4, 8] {
             for cells in [4, 64] {
-                for dense in [false, true] {
+                for &locks in locks {
                     all.push(Family {
                         threads,
                         cells,
-                        dense,
+                        locks,
                     });
                 }
             }
@@ -48,9 +62,20 @@ impl Family {
         all
     }
 
+    /// The families of recordings: 2, 4 and 8 threads, 4 and 64 cells, sparse and dense locks.
+    pub fn all() -> Vec<Family> {
+        Family::with(&[Locks::Sparse, Locks::Dense])
+    }
+
+    /// The same with deep locks.
+    pub fn deep() -> Vec<Family> {
+        Family::with(&[Locks::Deep])
+    }
+
     /// A recording of n events. A thread outside any section enters one in one step of 16 (sparse) or of 3
-    /// (dense), if the lock it wants is free; inside, it leaves in one step of 4. All other steps are accesses,
-    /// one in three a write.
+    /// (dense, deep), if the lock it wants is free; inside, it gives back one level in one step of 4 and, if the
+    /// locks are deep, takes its lock again in one of 4 of the other steps. All else are accesses, one in three a
+    /// write.
     pub fn recording(self, n: usize, seed: u64) -> Vec<u8> {
         let mut r = Random::new(seed);
         let mut holds = vec![None; self.threads as usize];
@@ -66,16 +91,20 @@ impl Family {
         file
     }
 
-    fn step(self, r: &mut Random, holds: &mut [Option<u64>], thread: usize) -> (u8, u64) {
-        if let Some(lock) = holds[thread] {
+    fn step(self, r: &mut Random, holds: &mut [Hold], thread: usize) -> (u8, u64) {
+        if let Some((lock, depth)) = holds[thread] {
             if r.below(4) == 0 {
-                holds[thread] = None;
+                holds[thread] = (depth > 1).then_some((lock, depth - 1));
                 return (4, lock);
             }
-        } else if r.below(if self.dense { 3 } else { 16 }) == 0 {
+            if self.locks == Locks::Deep && r.below(4) == 0 {
+                holds[thread] = Some((lock, depth + 1));
+                return (3, lock);
+            }
+        } else if r.below(if self.locks == Locks::Sparse { 16 } else { 3 }) == 0 {
             let lock = r.below(4);
-            if !holds.contains(&Some(lock)) {
-                holds[thread] = Some(lock);
+            if !holds.iter().flatten().any(|(held, _)| *held == lock) {
+                holds[thread] = Some((lock, 1));
                 return (3, lock);
             }
         }

@@ -1,9 +1,10 @@
 //! The vectors' two texts: each line asked, and the line that answers it.
 
+use crate::holds::{deepest, has_reentry};
 use crate::questions::{Asked, Verdict, AREA};
 use crate::recording::{made_readable, Event, Kind, Recording, Refusal};
 use crate::rules::{fits_after, Seen};
-use crate::study::{Pair, Study};
+use crate::study::{depends_on_depth, Pair, Study, SHORT_BY_TWO};
 use crate::writer::{self, Handed};
 use std::collections::BTreeMap;
 
@@ -117,6 +118,7 @@ impl Book {
         }
         words.extend(study.pairs.iter().flat_map(|p| confirmed(study, p)));
         words.extend(study.pairs.iter().flat_map(|p| shape(study, p)));
+        words.extend(reentry_words(study, self.group));
         for word in words {
             self.count(word);
         }
@@ -256,6 +258,24 @@ fn confirmed(study: &Study, pair: &Pair) -> Vec<String> {
         words.push("confirmed: by two threads, reported exactly if predictable");
     }
     words.into_iter().map(str::to_string).collect()
+}
+
+/// What is told of a recording in which a lock is taken again.
+fn reentry_words(study: &Study, group: &str) -> Vec<String> {
+    let events = study.events();
+    if !has_reentry(events) {
+        return Vec::new();
+    }
+    let same = "confirmed: the same verdict and list without inner acquires and releases";
+    let mut words = vec![same.to_string(); study.pairs.len()];
+    words.push(format!("with re-entry, {group}"));
+    if deepest(events) > 2 {
+        words.push(format!("with a lock held three deep or deeper, {group}"));
+    }
+    if events.len() <= SHORT_BY_TWO && depends_on_depth(events) {
+        words.push(format!("with a pair that depends on the depth, {group}"));
+    }
+    words
 }
 
 /// What was confirmed of an asking of the writer; a file is read back here.

@@ -7,8 +7,9 @@ use crate::preambles;
 use crate::questions::AREA;
 use crate::random::random_events;
 use crate::recording::{acq, event_bytes, file, r, rel, told, trailer, w, Event};
-use crate::short::every;
-use crate::worked::{Q, R};
+use crate::reentry::random_reentry;
+use crate::short::every_without_reentry;
+use crate::worked::{Q, R, Z};
 
 /// A file in parts, each of which may be wrong.
 #[derive(Clone)]
@@ -52,6 +53,7 @@ pub fn write(book: &mut Book) {
     locks(book);
     two_at_once(book);
     at_random(book);
+    deep_locks(book);
 }
 
 fn sizes(book: &mut Book) {
@@ -79,7 +81,8 @@ fn sizes(book: &mut Book) {
     ask_of_refused(book);
 }
 
-/// The questions asked of a refused file all give its refusal.
+/// The questions asked of a refused file all give its refusal; one file that request Three made good
+/// is asked them too.
 pub fn ask_of_refused(book: &mut Book) {
     book.ask2(1);
     book.ask22(0);
@@ -228,7 +231,8 @@ fn fields(book: &mut Book) {
     }
 }
 
-/// Locks taken while held or given back by another, and some good ones among them.
+/// Locks taken while held or given back by another, and some good ones among them: those by the
+/// holder are good by request Three.
 pub const LOCKS: [&str; 17] = [
     "0+0 0+0",
     "0+0 1+0",
@@ -249,16 +253,49 @@ pub const LOCKS: [&str; 17] = [
     "0w0 0r0 0+0 1w0",
 ];
 
-fn locks(book: &mut Book) {
-    book.title("refusals 8 and 9: held locks, releases of what is not held");
+/// Holds two and three deep, and what another thread or a release too many meets at each depth.
+pub const DEEP_LOCKS: [&str; 24] = [
+    "0+0 0+0 1+0",
+    "0+0 0+0 0-0 1+0",
+    "0+0 0+0 0-0 0-0 1+0",
+    "0+0 0+0 1-0",
+    "0+0 0+0 0-0 1-0",
+    "0+0 0+0 0-0 0-0 1-0",
+    "0+0 0+0 0-0 0-0 0-0",
+    "0+0 0+0 0+0 0-0 0-0 1+0",
+    "0+0 0+0 0+0 0-0 0-0 0-0 1+0",
+    "0+0 0+0 0-0 0+0 0-0 1+0",
+    "0+0 0+0 0-0 0+0 0-0 0-0 1+0",
+    "0+0 0-0 1+0 1+0 0+0",
+    "0+0 0-0 1+0 1+0 1-0 0+0",
+    "0+0 0-0 1+0 1+0 1-0 1-0 0+0 0+0",
+    "0+0 0+0 0-0 0-0 1+0 1+0 0-0",
+    "0+0 0+1 0+0 0-1 0-0 1+0",
+    "0+0 0+1 0+0 0-1 0-0 1+1",
+    "0+0 0+1 0+0 0-0 0-0 1+0",
+    "0+0 0+1 0+0 0-0 0-0 1+1",
+    "0+0 0+1 0+0 0-0 0-1 0-1",
+    "0+0 0+0 1+1 1+1 0-0 1-1 0+1",
+    "0+0 0+0 1+1 1+1 0-0 1-1 1-0",
+    "15+255 15+255 15-255 15-255 14+255 15-255",
+    "15+255 15+255 15-255 14+255",
+];
+
+/// Each case alone, behind and before other events, and twice.
+fn lock_cases(book: &mut Book, cases: &[&str]) {
     let padding = told("3w7 4r7 5+77");
-    for case in LOCKS.map(told) {
+    for case in cases.iter().map(|case| told(case)) {
         book.recording(&file(&[], &case));
         book.recording(&file(b"p", &[&padding[..], &case].concat()));
         book.recording(&file(&[], &[&case[..], &padding].concat()));
         book.recording(&file(&[], &[&case[..], &case].concat()));
     }
     ask_of_refused(book);
+}
+
+fn locks(book: &mut Book) {
+    book.title("refusals 8 and 9: held locks, releases of what is not held");
+    lock_cases(book, &LOCKS);
     for place in 0..8 {
         let mut events = told(R);
         events.remove(place);
@@ -331,11 +368,32 @@ pub fn pairs_of(damages: &[Damage]) -> Vec<Raw> {
     damaged
 }
 
+/// Request Three: refusals 8 and 9 go by the holder and the depth.
+fn deep_locks(book: &mut Book) {
+    book.title("refusals 8 and 9: locks held two and three deep");
+    lock_cases(book, &DEEP_LOCKS);
+    book.title("refusals 8 and 9: an acquire or a release more in Z at each place");
+    for place in 0..=told(Z).len() {
+        for event in told("0+0 1+0 2+0 0-0 1-0 2-0") {
+            let mut events = told(Z);
+            events.insert(place, event);
+            book.recording(&file(&[], &events));
+        }
+    }
+    book.title("good recordings with re-entry with a byte changed, dropped or added");
+    let mut chance = Chance::new(55);
+    for _ in 0..200 {
+        let mut bytes = file(&[], &random_reentry(&mut chance));
+        spoil(&mut bytes, &mut chance);
+        book.recording_and_readable(&bytes);
+    }
+}
+
 /// Good recordings of groups 3 and 4 with a byte changed, dropped or added.
 fn at_random(book: &mut Book) {
     book.title("good recordings of groups 3 and 4 with a byte changed, dropped or added");
     let mut chance = Chance::new(5);
-    let short = every(4);
+    let short = every_without_reentry(4);
     for turn in 0..700 {
         let events = if turn % 3 == 0 {
             chance.one_of(&short)

@@ -2,6 +2,7 @@
 
 use crate::askings::ask_all;
 use crate::book::{Book, LONGEST};
+use crate::depths;
 use crate::questions::AREA;
 use crate::recording::{acq, file, r, rel, told, w, Event};
 use crate::worked::{Q, W};
@@ -27,6 +28,7 @@ pub fn write(book: &mut Book) {
     lent_places(book, &told(W), (4, 7));
     lent_places(book, &told(W), (1, 7));
     from_numbers(book);
+    depths::write(book);
 }
 
 /// The questions asked of a recording of 512 events.

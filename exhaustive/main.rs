@@ -1,19 +1,22 @@
 //! An independent exhaustive program: it answers the six questions of paper 01 and the writer's of
-//! request One by the published definitions alone, by listing and comparing, and writes down what
-//! it found as vectors. Three things are choices of this project: what lists of different lengths
+//! request One by the published definitions alone, with the re-entrant locks of request Three, by
+//! listing and comparing, and writes down what it found as vectors. Three things are choices of this project: what lists of different lengths
 //! get, the list lent for all of question 2's answers at once, and the form of a text.
 
 mod askings;
 mod book;
 mod chance;
 mod damaged;
+mod depths;
 mod enumerate;
 mod figures;
+mod holds;
 mod limits;
 mod preambles;
 mod questions;
 mod random;
 mod recording;
+mod reentry;
 mod rules;
 mod samples;
 mod short;
@@ -34,6 +37,7 @@ fn vectors() -> Book {
     figures::write(&mut book);
     short::write(&mut book);
     random::write(&mut book);
+    reentry::write(&mut book);
     damaged::write(&mut book);
     limits::write(&mut book);
     samples::write(&mut book);
@@ -95,7 +99,8 @@ fn confirm() {
     stability::confirm_random(&recordings);
 }
 
-/// Further random recordings for whoever wants more than what is stored.
+/// Further random recordings for whoever wants more than what is stored, every third of them with
+/// re-entry.
 fn more(seed: &str, count: &str, dir: &str, longer: bool) {
     let seed: u64 = seed.parse().expect("SEED is a number");
     let mut chance = Chance::new(seed);
@@ -104,10 +109,11 @@ fn more(seed: &str, count: &str, dir: &str, longer: bool) {
     let mut book = Book::new();
     book.group("more random recordings");
     for turn in 0..count {
-        if longer {
-            random::put_longer(&mut book, &mut chance, turn);
-        } else {
-            random::put_one(&mut book, &mut chance);
+        match (turn % 3 == 2, longer) {
+            (false, false) => random::put_one(&mut book, &mut chance),
+            (false, true) => random::put_longer(&mut book, &mut chance, turn),
+            (true, false) => reentry::put_one(&mut book, &mut chance),
+            (true, true) => reentry::put_longer(&mut book, &mut chance, turn),
         }
         askings::ask_all_now_and_then(&mut book, &mut of_all);
     }

@@ -2,7 +2,9 @@
 
 use crate::recording::{judge, Refusal};
 use crate::recording::{Event, Kind};
-use crate::rules::{conflicting, enabled, held_after, next_of_thread, observed, seen_after, Seen};
+use crate::rules::{
+    conflicting, enabled, held_by_another, next_of_thread, observed, seen_after, Seen,
+};
 use crate::study::Study;
 
 /// The least work area of questions 3 and 4.
@@ -142,7 +144,7 @@ fn fault_at(events: &[Event], before: &[usize], number: usize) -> Option<u8> {
         Kind::Read if seen_after(events, before, event.object) != observed(events, number) => {
             Some(23)
         }
-        Kind::Acquire if held_after(events, before, event.object) => Some(24),
+        Kind::Acquire if held_by_another(events, before, event) => Some(24),
         _ => None,
     }
 }

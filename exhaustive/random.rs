@@ -3,17 +3,26 @@
 use crate::askings::{ask_a_few, ask_all_now_and_then};
 use crate::book::Book;
 use crate::chance::Chance;
+use crate::holds::takes_again;
 use crate::recording::{acq, count_threads, file, may_come_next, r, rel, told, w, Event, Kind};
 use crate::worked::W;
 
 const RECORDINGS: usize = 3200;
 const LONGER: usize = 360;
 
-/// What a random recording is made of.
-struct Stock {
-    threads: Vec<u8>,
-    cells: Vec<u16>,
-    locks: Vec<u16>,
+/// What a random recording is made of, and whether a lock may be taken again in it.
+pub struct Stock {
+    pub threads: Vec<u8>,
+    pub cells: Vec<u16>,
+    pub locks: Vec<u16>,
+    pub again: bool,
+}
+
+impl Stock {
+    /// Whether the event may come next.
+    pub fn allows(&self, events: &[Event], event: Event) -> bool {
+        may_come_next(events, event) && (self.again || !takes_again(events, event))
+    }
 }
 
 pub fn write(book: &mut Book) {
@@ -38,7 +47,7 @@ pub fn put_longer(book: &mut Book, chance: &mut Chance, turn: usize) {
     let n = chance.from_to(10, 14);
     let events = match turn % 6 {
         0 => loose(chance, &stock, n),
-        1..=3 => in_sections(chance, &stock, n),
+        1..=3 => in_sections(chance, &stock, n, script),
         _ => {
             stock.cells.truncate(2);
             accesses_only(chance, &stock, n)
@@ -71,8 +80,8 @@ pub fn random_events_by(chance: &mut Chance, threads: usize) -> Vec<Event> {
         let n = chance.from_to(6, most);
         let events = match chance.below(10) {
             0..=2 => loose(chance, &stock, n),
-            3..=6 => in_sections(chance, &stock, n),
-            _ => like_the_book(chance, &stock),
+            3..=6 => in_sections(chance, &stock, n, script),
+            _ => like_the_book(chance, &stock, &tangles()),
         };
         if count_threads(&events) == threads {
             return events;
@@ -80,7 +89,7 @@ pub fn random_events_by(chance: &mut Chance, threads: usize) -> Vec<Event> {
     }
 }
 
-fn random_stock(chance: &mut Chance, threads: usize) -> Stock {
+pub fn random_stock(chance: &mut Chance, threads: usize) -> Stock {
     let names: [&[u8]; 5] = [
         &[0, 1, 2, 3],
         &[3, 15, 0, 7],
@@ -96,10 +105,11 @@ fn random_stock(chance: &mut Chance, threads: usize) -> Stock {
         threads: chance.one_of(&names)[..threads].to_vec(),
         cells: take(chance.one_of(&objects), cells),
         locks: take(chance.one_of(&objects), locks),
+        again: false,
     }
 }
 
-fn random_access(chance: &mut Chance, stock: &Stock, thread: u8) -> Event {
+pub fn random_access(chance: &mut Chance, stock: &Stock, thread: u8) -> Event {
     let cell = chance.one_of(&stock.cells);
     if chance.percent(50) {
         r(thread, cell)
@@ -119,7 +129,7 @@ fn loose(chance: &mut Chance, stock: &Stock, n: usize) -> Vec<Event> {
             2..=3 => rel(thread, lock),
             _ => random_access(chance, stock, thread),
         };
-        if may_come_next(&events, event) {
+        if stock.allows(&events, event) {
             events.push(event);
         }
     }
@@ -135,9 +145,12 @@ fn accesses_only(chance: &mut Chance, stock: &Stock, n: usize) -> Vec<Event> {
     events
 }
 
+/// What a thread does in one go.
+type Script = fn(&mut Chance, &Stock, u8) -> Vec<Event>;
+
 /// Threads that work in locked sections with accesses before, in and after them, mixed as the
 /// locks allow; a section now and then stays open.
-fn in_sections(chance: &mut Chance, stock: &Stock, n: usize) -> Vec<Event> {
+pub fn in_sections(chance: &mut Chance, stock: &Stock, n: usize, script: Script) -> Vec<Event> {
     let mut scripts: Vec<Vec<Event>> = Vec::new();
     for thread in &stock.threads {
         scripts.push(script(chance, stock, *thread));
@@ -150,7 +163,7 @@ fn in_sections(chance: &mut Chance, stock: &Stock, n: usize) -> Vec<Event> {
         }
         let thread = stock.threads[current];
         match scripts[current].first().copied() {
-            Some(event) if may_come_next(&events, event) => {
+            Some(event) if stock.allows(&events, event) => {
                 events.push(event);
                 scripts[current].remove(0);
             }
@@ -181,22 +194,23 @@ fn script(chance: &mut Chance, stock: &Stock, thread: u8) -> Vec<Event> {
     events
 }
 
-/// The W or X of the worked examples, or another tangle of three threads, with some events inserted, left out
-/// or exchanged: here rule (iv) and the recorded order of the others matter.
-fn like_the_book(chance: &mut Chance, stock: &Stock) -> Vec<Event> {
+/// One of these recordings with some events inserted, left out or exchanged.
+pub fn like_the_book(chance: &mut Chance, stock: &Stock, tangles: &[Vec<Event>]) -> Vec<Event> {
     loop {
-        let mut events = chance.one_of(&tangles());
+        let mut events = chance.one_of(tangles);
         for _ in 0..chance.from_to(1, 5) {
             edit(chance, &mut events);
         }
         let renamed: Vec<Event> = events.iter().map(|e| rename(stock, *e)).collect();
-        let formed = (0..events.len()).all(|i| may_come_next(&renamed[..i], renamed[i]));
+        let formed = (0..events.len()).all(|i| stock.allows(&renamed[..i], renamed[i]));
         if formed && (6..=9).contains(&events.len()) {
             return renamed;
         }
     }
 }
 
+/// The W of the worked examples and other tangles of three threads: here rule (iv) and the recorded
+/// order of the others matter.
 fn tangles() -> Vec<Vec<Event>> {
     let open = told("0w0 2+0 2w1 1r1 2r0 2-0 1w0");
     let crossed = told("2+0 2w1 2-0 0+0 0r1 0w0 0-0 1+0 1w0");

@@ -1,5 +1,8 @@
 //! A recording as bytes: how it is laid out and how it is judged
-//! (paper 01, "A recording on the desk" and refusals 1 to 9; request One, refusal 13).
+//! (paper 01, "A recording on the desk" and refusals 1 to 9; request One, refusal 13; request
+//! Three, refusals 8 and 9).
+
+use crate::holds::{held_by_another, hold};
 
 #[derive(Clone, Copy, PartialEq, Eq, Debug)]
 pub enum Kind {
@@ -140,23 +143,17 @@ fn judge_event(four: &[u8], number: usize) -> Result<Event, Refusal> {
     })
 }
 
-/// Well-formed: an acquire takes a lock that nobody holds (8), a release is by the holder (9).
+/// Well-formed: an acquire takes a lock that no other thread holds (8), a release is by the
+/// holder (9).
 fn judge_lock(before: &[Event], event: Event, number: usize) -> Result<(), Refusal> {
-    let holder = holder(before, event.object);
+    let before = before.iter().copied();
     match event.kind {
-        Kind::Acquire if holder.is_some() => Err(Refusal::at(8, number)),
-        Kind::Release if holder != Some(event.thread) => Err(Refusal::at(9, number)),
+        Kind::Acquire if held_by_another(before.clone(), event) => Err(Refusal::at(8, number)),
+        Kind::Release if hold(before, event.object).map(|h| h.thread) != Some(event.thread) => {
+            Err(Refusal::at(9, number))
+        }
         _ => Ok(()),
     }
-}
-
-/// Who holds the lock after these events: the taker, if it was taken last.
-pub fn holder(events: &[Event], lock: u16) -> Option<u8> {
-    let last = events
-        .iter()
-        .rev()
-        .find(|e| e.object == lock && matches!(e.kind, Kind::Acquire | Kind::Release))?;
-    (last.kind == Kind::Acquire).then_some(last.thread)
 }
 
 /// Whether the event may come next in a well-formed recording.

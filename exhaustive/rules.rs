@@ -1,6 +1,7 @@
-//! The definitions of paper 01, "When one access can meet another", each tested by its own words.
-//! Events are numbered from 1; a list is a list of event numbers.
+//! The definitions of paper 01, "When one access can meet another", each tested by its own words;
+//! of locks as request Three has it. Events are numbered from 1; a list is a list of event numbers.
 
+use crate::holds::{self, counts};
 use crate::recording::{Event, Kind};
 
 pub type List = Vec<usize>;
@@ -33,7 +34,7 @@ fn writes(event: Event, cell: u16) -> bool {
     event.kind == Kind::Write && event.object == cell
 }
 
-fn is_access(event: Event) -> bool {
+pub fn is_access(event: Event) -> bool {
     matches!(event.kind, Kind::Read | Kind::Write)
 }
 
@@ -71,20 +72,31 @@ fn beginnings_in_order(events: &[Event], list: &[usize]) -> bool {
     })
 }
 
+/// Of those acquires and releases that count, no acquire stands where its lock is held.
 fn no_lock_acquired_while_held(events: &[Event], list: &[usize]) -> bool {
     (0..list.len()).all(|i| {
         let event = at(events, list[i]);
-        event.kind != Kind::Acquire || !held_after(events, &list[..i], event.object)
+        event.kind != Kind::Acquire
+            || !counts(events, list[i])
+            || !held_after(events, &list[..i], event.object)
     })
 }
 
-/// Whether the lock is held after the list: it was acquired and not released since.
-pub fn held_after(events: &[Event], list: &[usize], lock: u16) -> bool {
+/// Whether the lock is held after the list: of those that count, the last one is an acquire.
+fn held_after(events: &[Event], list: &[usize], lock: u16) -> bool {
+    let of_lock = |e: &usize| !is_access(at(events, *e)) && at(events, *e).object == lock;
     list.iter()
+        .copied()
         .rev()
-        .map(|e| at(events, *e))
-        .find(|e| !is_access(*e) && e.object == lock)
-        .is_some_and(|e| e.kind == Kind::Acquire)
+        .find(|e| of_lock(e) && counts(events, *e))
+        .is_some_and(|e| at(events, e).kind == Kind::Acquire)
+}
+
+/// Whether another thread holds, after the list, the lock that this event takes. For the next
+/// event of its thread after a correct list that says what the clause above says: an outermost
+/// acquire finds its lock held by another or by nobody, an inner one by its own thread.
+pub fn held_by_another(events: &[Event], list: &[usize], event: Event) -> bool {
+    holds::held_by_another(list.iter().map(|e| at(events, *e)), event)
 }
 
 fn reads_see_as_recorded(events: &[Event], list: &[usize]) -> bool {
@@ -107,12 +119,9 @@ pub fn seen_after(events: &[Event], list: &[usize], cell: u16) -> Seen {
 /// the events of its thread that are in the list are just those before it in the recording.
 pub fn next_of_thread(events: &[Event], list: &[usize], number: usize) -> bool {
     let thread = at(events, number).thread;
-    let done = list.iter().filter(|e| at(events, **e).thread == thread);
-    done.count()
-        == (1..number)
-            .filter(|e| at(events, *e).thread == thread)
-            .count()
-        && !list.contains(&number)
+    let own = |e: &usize| at(events, *e).thread == thread;
+    !list.contains(&number)
+        && list.iter().copied().filter(own).count() == (1..number).filter(own).count()
 }
 
 /// For a correct list: whether it stays correct with this event put at its end.
@@ -123,7 +132,7 @@ pub fn fits_after(events: &[Event], list: &[usize], number: usize) -> bool {
     let event = at(events, number);
     match event.kind {
         Kind::Read => seen_after(events, list, event.object) == observed(events, number),
-        Kind::Acquire => !held_after(events, list, event.object),
+        Kind::Acquire => !held_by_another(events, list, event),
         _ => true,
     }
 }
@@ -181,11 +190,17 @@ fn use_rules(events: &[Event], inside: &mut [bool], number: usize, a: usize, b: 
     }
 }
 
-/// The release that gives back what this acquire took, if there is one.
+/// The last release of what this outermost acquire took, if there is one: the first release of the
+/// lock that counts. An inner acquire is matched with none.
 fn matching_release(events: &[Event], acquire: usize) -> Option<usize> {
     let lock = at(events, acquire).object;
-    (acquire + 1..=events.len())
-        .find(|e| at(events, *e).kind == Kind::Release && at(events, *e).object == lock)
+    let gives_back = |e: &usize| {
+        at(events, *e).kind == Kind::Release && at(events, *e).object == lock && counts(events, *e)
+    };
+    if !counts(events, acquire) {
+        return None;
+    }
+    (acquire + 1..=events.len()).find(gives_back)
 }
 
 /// Whether all events outside the moved thread keep the recording's order among themselves.

@@ -4,10 +4,11 @@
 
 use crate::chance::Chance;
 use crate::enumerate::every_correct;
+use crate::holds::has_reentry;
 use crate::questions::first_fault;
 use crate::recording::{acq, count_threads, may_come_next, r, rel, w, Event, Kind};
 use crate::rules::{brings_next, List};
-use crate::short::every;
+use crate::short::{every, every_with_reentry};
 use crate::study::{conflicting_pairs, shown_by_merges, SHORT};
 
 type Known = (usize, usize, Option<List>);
@@ -36,6 +37,8 @@ impl Base {
 #[derive(Default)]
 pub struct Tally {
     pub lengthenings: usize,
+    /// Those in which a lock is taken again.
+    pub with_reentry: usize,
     pub same_verdicts: usize,
     pub never_predictable: usize,
     pub lists_still_pass: usize,
@@ -46,6 +49,7 @@ pub struct Tally {
 impl Tally {
     fn look(&mut self, base: &Base, longer: &[Event]) {
         self.lengthenings += 1;
+        self.with_reentry += usize::from(has_reentry(longer));
         for (a, b, shown) in &base.pairs {
             let now = shown_by_merges(longer, *a, *b);
             if base.by_two {
@@ -113,9 +117,10 @@ impl Tally {
 
     pub fn print(&self, what: &str) {
         println!(
-            "{what}: {} lengthenings, {} verdicts the same, {} pairs still not predictable, \
-             {} lists still pass, {} verdicts changed (three or more threads)",
+            "{what}: {} lengthenings ({} with re-entry), {} verdicts the same, {} pairs still \
+             not predictable, {} lists still pass, {} verdicts changed (three or more threads)",
             self.lengthenings,
+            self.with_reentry,
             self.same_verdicts,
             self.never_predictable,
             self.lists_still_pass,
@@ -223,11 +228,12 @@ fn some_of(events: &[Event], least: usize, times: usize, chance: &mut Chance, ta
     }
 }
 
-/// The confirmations for every recording of at most 5 events by 2 threads.
+/// The confirmations for every recording of at most 5 events by 2 threads with 1 lock, re-entry
+/// among them, and for those with 2 locks and re-entry.
 pub fn confirm_short() {
     for (length, new_threads, steps) in [(2, 2, 3), (3, 2, 3), (4, 2, 2), (5, 1, 2)] {
         let mut tally = Tally::default();
-        for events in every(length).iter().filter(|e| e.len() == length) {
+        for events in every(length, 1).iter().filter(|e| e.len() == length) {
             all_of(events, new_threads, steps, &mut tally);
         }
         tally.print(&format!(
@@ -237,12 +243,17 @@ pub fn confirm_short() {
     }
     let mut chance = Chance::new(12);
     let mut tally = Tally::default();
-    for events in every(5).iter().filter(|e| e.len() >= 4) {
+    for events in every(5, 1).iter().filter(|e| e.len() >= 4) {
         some_of(events, 3, 60, &mut chance, &mut tally);
     }
     tally.print(
         "all recordings of 4 and 5 events, lengthenings by 3 events at random, 2 new threads",
     );
+    let mut tally = Tally::default();
+    for events in every_with_reentry(2) {
+        some_of(&events, 1, 10, &mut chance, &mut tally);
+    }
+    tally.print("those of up to 5 events with 2 locks and re-entry, lengthenings at random");
 }
 
 /// How many lengthenings of a random recording are tried: few where visiting every correct

@@ -2,6 +2,7 @@
 //! what is shown for them and, for short recordings, which are predictable.
 
 use crate::enumerate::{all_correct, correct_merges, every_correct};
+use crate::holds::{freed_by_first, has_reentry, without_inner};
 use crate::recording::{count_threads, Event, Recording};
 use crate::rules::{brings_next, cone, conflicting, correct, is_candidate, shown, List};
 
@@ -36,13 +37,16 @@ impl Study {
         let short = events.len() <= SHORT && threads <= SHORT_THREADS;
         let lists = short.then(|| all_correct(events));
         let visited = short || threads <= 2 && events.len() <= SHORT_BY_TWO;
-        let predictable = visited.then(|| predictable_pairs(events));
-        let predictable =
-            predictable.or_else(|| (threads <= 2).then(|| predictable_by_two(events)));
-        let pairs = conflicting_pairs(events)
+        let predictable = match &lists {
+            Some(lists) => Some(predictable_of_all(events, lists)),
+            None if visited => Some(predictable_pairs(events)),
+            None => (threads <= 2).then(|| predictable_by_two(events)),
+        };
+        let pairs: Vec<Pair> = conflicting_pairs(events)
             .into_iter()
             .map(|pair| study_pair(events, lists.as_deref(), predictable.as_deref(), pair))
             .collect();
+        check_inner(events, &pairs, visited);
         Study {
             threads,
             pairs,
@@ -75,17 +79,29 @@ pub fn conflicting_pairs(events: &[Event]) -> Vec<(usize, usize)> {
 /// The predictable races: every correct reordering is visited.
 pub fn predictable_pairs(events: &[Event]) -> Vec<(usize, usize)> {
     let mut open = conflicting_pairs(events);
-    let mut found = Vec::new();
-    every_correct(events, &mut |list| {
-        open.retain(|(a, b)| {
-            let brought = brings_next(events, list, *a, *b);
-            if brought {
-                found.push((*a, *b));
-            }
-            !brought
-        });
-    });
-    found
+    every_correct(events, &mut |list| drop_brought(events, &mut open, list));
+    all_but(events, &open)
+}
+
+/// The predictable races, from the list of every correct reordering.
+fn predictable_of_all(events: &[Event], lists: &[List]) -> Vec<(usize, usize)> {
+    let mut open = conflicting_pairs(events);
+    for list in lists {
+        drop_brought(events, &mut open, list);
+    }
+    all_but(events, &open)
+}
+
+/// Drops the pairs that the list brings next.
+fn drop_brought(events: &[Event], open: &mut Vec<(usize, usize)>, list: &[usize]) {
+    open.retain(|(a, b)| !brings_next(events, list, *a, *b));
+}
+
+/// The conflicting pairs but these.
+fn all_but(events: &[Event], open: &[(usize, usize)]) -> Vec<(usize, usize)> {
+    let mut pairs = conflicting_pairs(events);
+    pairs.retain(|pair| !open.contains(pair));
+    pairs
 }
 
 /// The predictable races of a longer recording by two threads. A list that brings both next has
@@ -162,4 +178,31 @@ fn check_pair(events: &[Event], pair: &Pair) {
     } else if count_threads(events) <= 2 {
         assert!(pair.predictable != Some(true), "{events:?} {a} {b}");
     }
+}
+
+/// With idle reads in place of the inner acquires and releases no lock is taken again, and each
+/// pair must have the same verdict and list, and be predictable or not as before.
+fn check_inner(events: &[Event], pairs: &[Pair], visited: bool) {
+    if !has_reentry(events) {
+        return;
+    }
+    let plain = without_inner(events);
+    assert!(!has_reentry(&plain), "{events:?}");
+    let predictable = visited.then(|| predictable_pairs(&plain));
+    for pair in pairs {
+        let (a, b) = (pair.a, pair.b);
+        assert_eq!(pair.shown, shown_by_merges(&plain, a, b), "{events:?}");
+        if let Some(predictable) = &predictable {
+            let found = predictable.contains(&(a, b));
+            assert_eq!(pair.predictable, Some(found), "{events:?} {a} {b}");
+        }
+    }
+}
+
+/// Whether some pair would have another verdict or list if the first release gave a lock back.
+pub fn depends_on_depth(events: &[Event]) -> bool {
+    let read = freed_by_first(events);
+    conflicting_pairs(events)
+        .into_iter()
+        .any(|(a, b)| shown_by_merges(events, a, b) != shown_by_merges(&read, a, b))
 }

@@ -1,4 +1,5 @@
-//! Group 1: the worked examples P to X, the slips and the limits of paper 01.
+//! Group 1: the worked examples P to Z, the slips and the limits of paper 01. Y, Z and the last
+//! slips are those of request Three.
 //! Cells x = 0, y = 1, z = 2; locks l = 0, m = 1.
 
 use crate::askings::ask_all;
@@ -14,9 +15,11 @@ const U: &str = "0r0 0w2 1w0 1w2";
 pub const V: &str = "0w0 1r0";
 pub const W: &str = "0w0 2+0 2w1 2r0 2-0 1r1 1w0";
 const X: &str = "2+1 2w1 0r1 0w0 1+0 1r0 1-0 2+0 2-0 2-1";
+const Y: &str = "0w0 2+0 2+0 2w1 2-0 2r0 2-0 1r1 1+0 1w0";
+pub const Z: &str = "0w1 0+0 0w0 0-0 1+0 1+0 1r1 1r0 1-0 1-0";
 
 /// All but the empty one.
-pub const ALL: [&str; 8] = [Q, R, S, T, U, V, W, X];
+pub const ALL: [&str; 10] = [Q, R, S, T, U, V, W, X, Y, Z];
 
 /// A reported pair with the list shown for it.
 type Race<'a> = (usize, usize, &'a [usize]);
@@ -41,8 +44,10 @@ pub fn write(book: &mut Book) {
     r_s_t(book);
     u_and_v(book);
     w_and_x(book);
+    y_and_z(book);
     slips(book);
     more_slips(book);
+    slips_of_reentry(book);
     limits(book);
 }
 
@@ -133,6 +138,32 @@ fn w_and_x(book: &mut Book) {
     book.ask5(4, 6, &[5, 1, 2, 3]);
 }
 
+fn y_and_z(book: &mut Book) {
+    let title =
+        "Y: (6, 10) is not reported, 5 leaves the lock held; nor is (1, 10), with 2 comes 7";
+    put(book, title, Y, &[(1, 6, &[2, 3, 4, 5]), (4, 8, &[2, 3])]);
+    book.ask22(LONGEST);
+    book.ask3(6, 10, 10, AREA);
+    book.ask5(6, 10, &[2, 3, 4, 5, 8, 9]);
+    book.assert_answer("no 24");
+    book.ask5(6, 10, &[2, 3, 4, 5, 8]);
+    book.ask3(1, 10, 10, AREA);
+    book.ask5(1, 10, &[2, 3, 4, 5, 8, 9]);
+    book.ask5(1, 10, &[1, 2, 3, 4, 5, 6, 7, 8, 9]);
+    book.ask5(1, 6, &[2, 3, 4, 5]);
+    book.ask5(4, 8, &[2, 3]);
+    let title = "Z: only (1, 7), with 5 6: the holder takes the lock again";
+    put(book, title, Z, &[(1, 7, &[5, 6])]);
+    book.ask22(LONGEST);
+    book.ask3(1, 7, 10, AREA);
+    book.ask5(1, 7, &[5, 6]);
+    book.assert_answer("yes");
+    book.ask5(1, 7, &[5]);
+    book.ask3(3, 8, 10, AREA);
+    book.ask5(3, 8, &[1, 2, 5, 6, 7]);
+    book.ask5(3, 8, &[1, 5, 6, 7, 2]);
+}
+
 /// For each slip a recording that a program making it answers wrongly.
 fn slips(book: &mut Book) {
     let title = "slip, differing lock sets: T, (1, 7) has no common lock";
@@ -168,6 +199,34 @@ fn more_slips(book: &mut Book) {
     put(book, title, S, &[(1, 6, &[5])]);
     let title = "slip, releases added for the pair's own threads: (1, 3) with 2";
     put(book, title, "0w0 1+0 1w0 1-0", &[(1, 3, &[2])]);
+}
+
+/// The slips that request Three invites.
+fn slips_of_reentry(book: &mut Book) {
+    let title = "slip, an inner release taken for the last: (2, 7) is not reported";
+    put(book, title, "0+0 0w0 0-0 1+0 1+0 1-0 1w0 1-0", &[]);
+    book.ask5(2, 7, &[4, 5, 6, 1]);
+    book.assert_answer("no 24");
+    let title = "slip, an inner release taken for the last: (2, 8) is, with 4 5 6 7 before 1";
+    let last = "0+0 0w0 0-0 1+0 1+0 1-0 1-0 1w0";
+    put(book, title, last, &[(2, 8, &[4, 5, 6, 7, 1])]);
+    let title = "slip, rule (iv) with the first release: (1, 9) is not reported, with 2 comes 7";
+    let races: [Race; 3] = [
+        (1, 6, &[2, 3, 4, 5]),
+        (4, 8, &[2, 3]),
+        (6, 9, &[2, 3, 4, 8, 5]),
+    ];
+    put(book, title, "0w0 2+0 2+0 2w1 2-0 2r0 2-0 1r1 1w0", &races);
+    book.ask5(1, 9, &[2, 3, 4, 5, 8]);
+    let title = "slip, refusal 8 for the holder: (1, 4) is reported with 2 3";
+    put(book, title, "0w0 1+0 1+0 1w0", &[(1, 4, &[2, 3])]);
+    let title = "slip, a hold that is all given back counted as left: (1, 6) with 2 3 4 5";
+    put(
+        book,
+        title,
+        "0w0 1+0 1+0 1-0 1-0 1w0 0+0",
+        &[(1, 6, &[2, 3, 4, 5])],
+    );
 }
 
 /// A recording at a limit or beyond it.

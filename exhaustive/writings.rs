@@ -1,8 +1,9 @@
-//! Group 8: askings of the writer (request One).
+//! Group 8: askings of the writer (request One), with re-entry too (request Three).
 
 use crate::book::Book;
 use crate::chance::Chance;
-use crate::damaged::{damages, pairs_of, Damage, Raw, LOCKS, TO_DAMAGE};
+use crate::damaged::{damages, pairs_of, Damage, Raw, DEEP_LOCKS, LOCKS, TO_DAMAGE};
+use crate::holds::has_reentry;
 use crate::preambles::{long, placed, spoiled_places, EDGES};
 use crate::questions::AREA;
 use crate::recording::{file, told, w, Recording};
@@ -53,7 +54,9 @@ fn good_of(book: &Book, groups: &[&str]) -> Vec<Recording> {
 
 fn of_the_book(book: &mut Book) {
     book.title("the worked examples, the figures and the samples, written again");
-    let recordings = good_of(book, &["group 1", "group 2", "group 7"]);
+    let mut recordings = good_of(book, &["group 1", "group 2", "group 7"]);
+    // those with re-entry came later and stand behind the others
+    recordings.sort_by_key(|recording| has_reentry(&recording.events));
     for (turn, recording) in recordings.iter().enumerate() {
         let handed = Handed::of(recording);
         let length = handed.file_length();
@@ -71,8 +74,14 @@ fn of_the_book(book: &mut Book) {
 /// Some of the short and the random recordings, each with a readable preamble.
 fn short_and_random(book: &mut Book) {
     book.title("short and random recordings with preambles of several kinds");
-    let mut chance = Chance::new(8);
-    let good = good_of(book, &["group 3", "group 4"]);
+    with_preambles(book, 8, &["group 3:", "group 4:", "group 4, longer"]);
+    book.title("short and random recordings with re-entry, likewise");
+    with_preambles(book, 89, &["group 3, re-entry", "group 4, re-entry"]);
+}
+
+fn with_preambles(book: &mut Book, seed: u64, groups: &[&str]) {
+    let mut chance = Chance::new(seed);
+    let good = good_of(book, groups);
     for (turn, recording) in good.iter().step_by(83).enumerate() {
         let preamble = readable_preamble(&mut chance, turn);
         let handed = Handed::new(&preamble, &recording.events);
@@ -227,7 +236,7 @@ fn fields(book: &mut Book) {
 fn locks(book: &mut Book) {
     book.title("refusals 8 and 9: held locks, releases of what is not held");
     let padding = told("3w7 4r7 5+77");
-    for case in LOCKS.map(told) {
+    for case in LOCKS.iter().chain(&DEEP_LOCKS).map(|case| told(case)) {
         book.ask_writer(&Handed::new(b"", &case), 200);
         let later = [&padding[..], &case, &case].concat();
         book.ask_writer(&Handed::new(b"locks", &later), 200);

@@ -95,7 +95,7 @@ module _ (t : Trace) (R : List ℕ) where
     rel-is : (r : ℕ) → r ≡ getD rel k 0 → (r ≡ releaseOf t k) × (r ≤ length t)
     rel-is r e =
         let q = e ∙ w .links .closing .is k (v .bounded) in
-        let low : releaseOf t k ≢ 0 → r ≤ length t = λ ne. let z = release-after t k ne .1 in omega arith in
+        let low : releaseOf t k ≢ 0 → r ≤ length t = λ ne. let z = release-after t k (v .positive) (v .bounded) ne .1 in omega arith in
         (q, by-cases (eqb r 0) (λ z. let y : r ≡ 0 = eqb-true r 0 z in omega arith) (λ z. low (λ n. eqb-false r 0 z (q ∙ n))))
 
     -- the flags have place for each
@@ -160,7 +160,8 @@ module _ (t : Trace) (R : List ℕ) where
           let r-is = rel-is r er .0 in
           let inside = rel-in p 1 o 1 r er in
           let new : releaseOf t k ≢ 0 = λ z. ne (rw (r-is ∙ z) (two-sound .zero)) in
-          let a = release-acquires t k new in
+          let other : releaseOf t k ≢ k = λ z. ne (rw (r-is ∙ z) (flag-keep (set l p 1) o k (flag-keep l p k f))) in
+          let a = release-acquires t k new other in
           record {
             high = rel-is r er .1;
             cone = sound-more two two-sound r (λ q. rw r-is (closes in-cone (a .0) (exempt-false t R k (sym ex ∙ xf)) (a .1) new));

@@ -33,7 +33,7 @@ fn exempt(ev: &[u8], roots: &[u16], k: usize) -> bool
 }
 
 // Flags what event k brings in, where it is flagged itself: the event before it in its thread (rule ii), its observed write (iii) and,
-// unless its thread is a root's, its matching release (iv). Gives that release where it is newly flagged, or 0.
+// unless its thread is a root's, its matching release (iv); a last release is linked to itself. Gives that release where it is newly flagged, or 0.
 pub fn bring(
     ev: &[u8],
     previous: &[u16],

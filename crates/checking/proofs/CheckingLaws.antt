@@ -5,7 +5,6 @@ use mathlib.Core.Path.{_≡_, refl, sym, _∙_}
 use mathlib.Core.Bool.{Bool, true, false, not}
 use mathlib.Core.Option.{none}
 use mathlib.Core.List.{List}
-use lib.ListN.{length}
 use borrow.Author.Tests.{not-true, not-false}
 use Rattle.model.specs.Trace.{Trace}
 use Rattle.model.specs.Good.{Good}
@@ -13,7 +12,7 @@ use Rattle.model.specs.Check.{check}
 use Rattle.model.specs.Decision.{isConflicting}
 use Rattle.model.proofs.ListingExact.{conflicting-exactly}
 use Rattle.limits.specs.declared.Refusal.the-variants.{NotConflicting}
-use Rattle.links.specs.Links.{previous, observedBy, Table}
+use Rattle.links.specs.Links.{Linked}
 use Rattle.reordering.specs.Asked.{Asked as CheckAsked}
 use Rattle.checking.specs.Checking.{checkRefusal, checkBy, checkIn}
 use Rattle.checking.specs.declared.Check.the-variants.{Refused as NotChecked, Yes, No}
@@ -25,10 +24,10 @@ no-with (suc n) ne = refl
 -- ---- question 5
 
 module _ (t : Trace) (a b : ℕ) (c : Bool) (ec : c ≡ isConflicting t a b) (yes : not c ≡ false) where
-  pub check-asked : Good t → {prev obs : List ℕ} → Table (previous t) (length t) prev → Table (observedBy t) (length t) obs → CheckAsked t prev obs a b
-  check-asked g p o =
+  pub check-asked : Good t → {prev obs rel : List ℕ} → Linked t prev obs rel → CheckAsked t prev obs rel a b
+  check-asked g l =
       let k = conflicting-exactly t a b .0 (sym ec ∙ not-false c yes) in
-      record { good = g; earlier = p; seen = o; lower = k .apart .first; higher = k .apart .second }
+      record { good = g; earlier = l .earlier; seen = l .seen; released = l .closing; lower = k .apart .first; higher = k .apart .second }
 
 module _ (t : Trace) (a b : ℕ) (list : List ℕ) (c : Bool) (ec : c ≡ isConflicting t a b) where
   pub check-refused : not c ≡ true → NotChecked NotConflicting ≡ checkIn none t a b list

@@ -23,10 +23,10 @@ pub fn check_in(ev: &[u8], a: u16, b: u16, list: &[u16]) -> Check
         return Check::Refused(Refusal::NotConflicting);
     }
     let mut previous = [0u16; Trace::PLACES];
-    links::previous_links(ev, &mut previous);
     let mut observed = [0u16; Trace::PLACES];
-    links::observed_links(ev, &mut observed);
-    let fault = reordering::check(ev, &previous, &observed, a, b, list);
+    let mut released = [0u16; Trace::PLACES];
+    links::build(ev, &mut previous, &mut observed, &mut released);
+    let fault = reordering::check(ev, &previous, &observed, &released, a, b, list);
     if fault == 0 {
         return Check::Yes;
     }

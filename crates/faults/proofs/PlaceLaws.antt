@@ -1,14 +1,15 @@
 -- The ways through `access_fault` and `fault_at`.
-use Prim.Native.Nat.{ℕ, _≤_, _<_}
+use Prim.Native.Nat.{ℕ, _+_, _≤_, _<_}
 use native.Mathlib.Omega.{arith}
 use mathlib.Core.Path.{_≡_, refl, sym, _∙_, ap}
+use mathlib.Core.Logic.{inl, inr, ⊎-elim}
 use mathlib.Core.Bool.{Bool, true, false, not}
 use mathlib.Core.List.{List}
 use lib.ListN.{length, getD}
 use borrow.Author.Tests.{not-true, not-false}
 use Rattle.model.specs.Trace.{Trace, read, acquire, threadOf, kindOf, objectOf}
 use Rattle.model.specs.Observed.{lastWrite, observed}
-use Rattle.model.specs.Good.{Good, maxThread, maxObject, holder}
+use Rattle.model.specs.Good.{Good, maxThread, maxObject, holder, Free}
 use Rattle.model.specs.Reordering.{Step}
 use Rattle.model.specs.Check.{PlaceFault, no-event, not-next, sees-otherwise, lock-held}
 use Rattle.links.proofs.LinkFacts.{reads-observed}
@@ -59,11 +60,23 @@ module _ {t : Trace} {k : ℕ} (w : Here t k) {obs : List ℕ} (o : Observed t o
         held-by : getD locks x 0 ≡ holder t (objectOf t k) h
         held-by = q .holders .is x lx ∙ ap (λ (y : ℕ). holder t y h) ex
 
-      pub lock-free : getD locks x 0 ≡ 0 → AccessAnswer t writes locks k 0
-      lock-free f = record { judged = λ h last q en. stays-clean (record { enabled = en; sees = λ z. absurd (unread (ed ∙ z)); free = λ z. sym (held-by q) ∙ f }) }
+      -- the lock is open to the event's thread
+      may-take : ((h last : List ℕ) → Knows t h last writes locks → Free t h k) → AccessAnswer t writes locks k 0
+      may-take f = record { judged = λ h last q en. stays-clean (record { enabled = en; sees = λ z. absurd (unread (ed ∙ z)); free = λ z. f h last q }) }
 
-      pub lock-taken : (getD locks x 0 ≡ 0 → ⊥) → AccessAnswer t writes locks k 24
-      lock-taken f = record { judged = λ h last q en. has-fault (omega arith) (lock-held refl en (sym ed ∙ e) (λ z. f (held-by q ∙ z))) }
+      pub lock-free : getD locks x 0 ≡ 0 → AccessAnswer t writes locks k 0
+      lock-free f = may-take (λ h last q. inl (sym (held-by q) ∙ f))
+
+      module _ (taken : getD locks x 0 ≡ 0 → ⊥) (c : ℕ) (ec : c ≡ threadOf t k) where
+        pub lock-own : getD locks x 0 ≡ c + 1 → AccessAnswer t writes locks k 0
+        lock-own f = may-take (λ h last q. inr (let y = held-by q in omega arith))
+
+        pub lock-taken : (getD locks x 0 ≡ c + 1 → ⊥) → AccessAnswer t writes locks k 24
+        lock-taken f =
+            record {
+              judged = λ h last q en.
+                  has-fault (omega arith) (lock-held refl en (sym ed ∙ e) (λ z. ⊎-elim (λ u. taken (held-by q ∙ u)) (λ u. f (let y = held-by q in omega arith)) z));
+            }
 
     pub no-access : (d ≡ acquire → ⊥) → AccessAnswer t writes locks k 0
     no-access f = record { judged = λ h last q en. stays-clean (record { enabled = en; sees = λ z. absurd (unread (ed ∙ z)); free = λ z. absurd (f (ed ∙ z)) }) }

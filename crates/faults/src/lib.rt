@@ -8,11 +8,10 @@ ghost use Prim.Native.Nat.{_≤_};
 ghost use Rattle.model.specs.Trace.{threadOf, objectOf};
 ghost use Rattle.model.specs.Good.{Good, maxThread, maxObject};
 ghost use Rattle.format.specs.Bytes.{trace};
+ghost use Rattle.links.specs.Links.{Released};
 ghost use Rattle.faults.specs.Passing.{Here, Previous, Observed, NextAnswer, AccessAnswer, PlaceAnswer, Passed};
 
 const THREADS: usize = Thread::MAX as usize + 1;
-
-const OBJECTS: usize = Event::MAX_OBJECT + 1;
 
 // The paper's numbers of the faults at a place. A number of the list is 0 or above n;
 const NO_EVENT: u8 = 21;
@@ -20,7 +19,7 @@ const NO_EVENT: u8 = 21;
 const NOT_NEXT: u8 = 22;
 // it is a read that sees otherwise;
 const SEES_OTHERWISE: u8 = 23;
-// it is an acquire of a held lock.
+// it is an acquire of a lock that another thread holds.
 const LOCK_HELD: u8 = 24;
 
 // The thread of event k, as an index.
@@ -51,18 +50,20 @@ pub fn is_next(ev: &[u8], previous: &[u16], last: &[u16; THREADS], k: usize) -> 
     previous[k] == last[c]
 }
 
-// The fault of an event that is the next of its thread: a read must see what it saw in the trace, an acquire must take a free lock.
+// The fault of an event that is the next of its thread: a read must see what it saw in the trace, an acquire must take a
+// lock that no other thread holds.
 fn access_fault(
     ev: &[u8],
     observed: &[u16],
-    writes: &[u16; OBJECTS],
-    locks: &[u8; OBJECTS],
+    writes: &[u16; Event::OBJECTS],
+    locks: &[u8; Event::OBJECTS],
     k: usize,
 ) -> u8
     requires { ⌜ Here (trace (now ev)) k ⌝ }
     requires { ⌜ Observed (trace (now ev)) (now observed) ⌝ }
     ensures { λ r. ⌜ AccessAnswer (trace (now (ev .entry))) (now (writes .entry)) (now (locks .entry)) k r ⌝ }
 {
+    let c = thread(ev, k);
     let x = object(ev, k);
     let kind = format::kind_at(ev, k);
     if kind == Event::READ {
@@ -73,6 +74,9 @@ fn access_fault(
     }
     if kind == Event::ACQUIRE {
         if locks[x] == 0 {
+            return 0;
+        }
+        if locks[x] == (c + 1) as u8 {
             return 0;
         }
         return LOCK_HELD;
@@ -86,8 +90,8 @@ pub fn fault_at(
     previous: &[u16],
     observed: &[u16],
     last: &[u16; THREADS],
-    writes: &[u16; OBJECTS],
-    locks: &[u8; OBJECTS],
+    writes: &[u16; Event::OBJECTS],
+    locks: &[u8; Event::OBJECTS],
     k: u16,
 ) -> u8
     requires { ⌜ Good (trace (now ev)) ⌝ }
@@ -108,15 +112,17 @@ pub fn fault_at(
     access_fault(ev, observed, writes, locks, at)
 }
 
-// Event k is passed.
+// Event k is passed. Of the releases only a last one, which is linked to itself, frees its lock.
 pub fn pass(
     ev: &[u8],
+    released: &[u16],
     k: u16,
     last: &mut [u16; THREADS],
-    writes: &mut [u16; OBJECTS],
-    locks: &mut [u8; OBJECTS],
+    writes: &mut [u16; Event::OBJECTS],
+    locks: &mut [u8; Event::OBJECTS],
 )
     requires { ⌜ Here (trace (now ev)) k ⌝ }
+    requires { ⌜ Released (trace (now ev)) (now released) ⌝ }
     ensures { λ _. ⌜ Passed (trace (now (ev .entry))) k (now (last .entry)) (now (writes .entry)) (now (locks .entry)) (now (last .exit)) (now (writes .exit)) (now (locks .exit)) ⌝ }
 {
     let at = k as usize;
@@ -132,7 +138,7 @@ pub fn pass(
         locks[x] = (c + 1) as u8;
         return;
     }
-    if kind == Event::RELEASE {
+    if released[at] == k {
         locks[x] = 0;
     }
 }

@@ -1,28 +1,43 @@
--- The ways through `effect_at`.
-use Prim.Native.Nat.{ℕ, suc, _+_, _≤_, _<_}
+-- The ways through `effect_at` and `lock_effect`.
+use Prim.Native.Nat.{ℕ, suc, _+_, _-_, _*_, _≤_, _<_}
 use native.Mathlib.Omega.{arith}
-use mathlib.Core.Path.{_≡_, refl, sym, _∙_, ap}
+use mathlib.Core.Path.{_≡_, refl, sym, _∙_, ap, ap₂}
+use mathlib.Core.Logic.{_⊎_, inl, inr, ⊎-elim}
 use mathlib.Core.Bool.{Bool, true, false, not}
-use mathlib.Core.List.{List}
+use mathlib.Core.List.{List, _∷_}
 use lib.ListN.{getD}
-use lib.Dec.{leb}
+use lib.Dec.{eqb, leb}
 use mir.Val.{Fits}
-use mir.Syntax.{w8}
-use borrow.Author.Tests.{eq-eqb, ne-eqb, leb-true, leb-false, not-true, not-false}
-use Rattle.model.specs.Trace.{Trace, Event, at, acquire, release, threadOf, kindOf, objectOf}
+use mir.Syntax.{w8, w16, w64}
+use borrow.Author.Tests.{eq-eqb, ne-eqb, le-leb, lt-leb, leb-true, leb-false, not-true, not-false}
+use Rattle.model.specs.Trace.{Trace, Event, at, acquire, release, threadOf, kindOf, objectOf, does}
 use Rattle.model.specs.Lists.{before}
-use Rattle.model.specs.Good.{KnownKind, maxThread, maxObject, holder}
+use Rattle.model.specs.Good.{KnownKind, maxThread, maxObject, depth, holder, Free, Held}
 use Rattle.model.specs.Refusals.{InLimits, EventRefusal, unknown-kind, thread-over, object-over, lock-held, not-holder, isKnownKind}
 use Rattle.model.proofs.RefusalsExact.{GoodEvent, known-true, true-known, good-clean, event-refusal-exactly}
-use Rattle.model.proofs.Tests.{test-false}
+use Rattle.model.proofs.Locks.{depth-before}
+use Rattle.model.proofs.Tests.{test-false, true-does, false-does, true-either}
 use Rattle.format.specs.Bytes.{plain}
 use Rattle.limits.specs.declared.Event.{Event as Decoded}
 use Rattle.limits.specs.declared.Refusal.the-variants.{Kind, Thread, Object, LockHeld, NotHolder}
 use Rattle.judging.specs.Judged.{refusalAt}
 use Rattle.judging.specs.Walk.{Ready, effectOf}
-use Rattle.judging.specs.declared.Effect.the-variants.{Nothing, Holder, Refused}
+use Rattle.judging.specs.declared.Effect.the-variants.{Nothing, Hold, Refused}
 
-module _ {t : Trace} {k : ℕ} {table : List ℕ} (p : Ready t k table) {e : Decoded} (is : plain e ≡ at t k) where
+-- ---- a lock is held no deeper than events stand before, so that one level more fits
+
+pub deeper-fits : {t : Trace} {k : ℕ} {holders depths : List ℕ} → Ready t k holders depths → (x : ℕ) → x < maxObject + 1
+    → Fits w16 (getD depths x 0 + 1)
+deeper-fits {t} {k} p x b =
+    let is = p .locks .depth-is x (omega arith) in
+    let l = depth-before t x k in
+    let v = p .valid .bounded in
+    let f = p .few in
+    record { fits = omega arith }
+
+-- ---- event k as decoded, and a refusal of it
+
+module _ (t : Trace) (k : ℕ) (e : Decoded) (is : plain e ≡ at t k) where
   kind-is : e .kind ≡ kindOf t k
   kind-is = ap (λ (x : Event). x .kind) is
 
@@ -32,89 +47,148 @@ module _ {t : Trace} {k : ℕ} {table : List ℕ} (p : Ready t k table) {e : Dec
   object-is : e .object ≡ objectOf t k
   object-is = ap (λ (x : Event). x .object) is
 
-  stops : (n : ℕ) → EventRefusal t k (suc n) → Refused (refusalAt (suc n) k) ≡ effectOf t k
-  unfolding effectOf
-  stops n r = rw (event-refusal-exactly t k (suc n) (λ z. omega arith) .1 r)
+stops : (t : Trace) (k n : ℕ) → EventRefusal t k (suc n) → Refused (refusalAt (suc n) k) ≡ effectOf t k
+unfolding effectOf
+stops t k n r = rw (event-refusal-exactly t k (suc n) (λ z. omega arith) .1 r)
 
-  module _ (a : Bool) (ea : a ≡ isKnownKind (e .kind)) where
-    known-is : a ≡ isKnownKind (kindOf t k)
-    known-is = ea ∙ ap isKnownKind kind-is
+-- ---- the limits
 
-    pub kind-unknown : not a ≡ true → Refused (Kind k) ≡ effectOf t k
+module _ (t : Trace) (k : ℕ) (e : Decoded) (is : plain e ≡ at t k) (a : Bool) (ea : a ≡ isKnownKind (e .kind)) where
+  known-is : a ≡ isKnownKind (kindOf t k)
+  known-is = ea ∙ ap isKnownKind (kind-is t k e is)
+
+  pub kind-unknown : not a ≡ true → Refused (Kind k) ≡ effectOf t k
+  unfolding refusalAt
+  kind-unknown h = stops t k 4 (unknown-kind refl (test-false (true-known t k) (sym known-is ∙ not-true a h)))
+
+  module _ (ok : not a ≡ false) (b : Bool) (eb : b ≡ leb (e .thread .number) maxThread) where
+    known : KnownKind (kindOf t k)
+    known = known-true t k (sym known-is ∙ not-false a ok)
+
+    pub thread-over-limit : not b ≡ true → Refused (Thread k) ≡ effectOf t k
     unfolding refusalAt
-    kind-unknown h = stops 4 (unknown-kind refl (test-false (true-known t k) (sym known-is ∙ not-true a h)))
+    thread-over-limit h =
+        let n = leb-false (e .thread .number) maxThread (sym eb ∙ not-true b h) in
+        let d = thread-is t k e is in
+        stops t k 5 (thread-over refl known (λ q. omega arith))
 
-    module _ (ok : not a ≡ false) (b : Bool) (eb : b ≡ leb (e .thread .number) maxThread) where
-      known : KnownKind (kindOf t k)
-      known = known-true t k (sym known-is ∙ not-false a ok)
+    module _ (low : not b ≡ false) (d : Bool) (ed : d ≡ leb (e .object) maxObject) where
+      thread-low : threadOf t k ≤ maxThread
+      thread-low = let l = leb-true (e .thread .number) maxThread (sym eb ∙ not-false b low) in let y = thread-is t k e is in omega arith
 
-      pub thread-over-limit : not b ≡ true → Refused (Thread k) ≡ effectOf t k
+      pub object-over-limit : not d ≡ true → Refused (Object k) ≡ effectOf t k
       unfolding refusalAt
-      thread-over-limit h =
-          let n = leb-false (e .thread .number) maxThread (sym eb ∙ not-true b h) in
-          let d = thread-is in
-          stops 5 (thread-over refl known (λ q. omega arith))
+      object-over-limit h =
+          let n = leb-false (e .object) maxObject (sym ed ∙ not-true d h) in
+          let x = object-is t k e is in
+          stops t k 6 (object-over refl known thread-low (λ q. omega arith))
 
-      module _ (low : not b ≡ false) where
-        thread-low : e .thread .number ≤ maxThread
-        thread-low = leb-true _ _ (sym eb ∙ not-false b low)
+      pub within-limits : not d ≡ false → InLimits t k
+      within-limits ob =
+          let l = leb-true (e .object) maxObject (sym ed ∙ not-false d ob) in
+          let x = object-is t k e is in
+          record { kind = known; thread = thread-low; object = omega arith }
 
-        within : threadOf t k ≤ maxThread
-        within = let l = thread-low in let d = thread-is in omega arith
+-- ---- the lock
 
-        pub own-fits : Fits w8 (e .thread .number + 1)
-        own-fits = let l = thread-low in record { fits = omega arith }
+-- what an acquire, a release of the last level and one of an inner level leave a lock with
+module _ (t : Trace) (k : ℕ) (h : List ℕ) where
+  after-acquire : kindOf t k ≡ acquire
+      → (holder t (objectOf t k) (k ∷ h) ≡ suc (threadOf t k)) × (depth t (objectOf t k) (k ∷ h) ≡ suc (depth t (objectOf t k) h))
+  after-acquire a = rw (true-does t acquire (objectOf t k) k a refl) (refl, refl)
 
-        module _ (d : Bool) (ed : d ≡ leb (e .object) maxObject) where
-          pub object-over-limit : not d ≡ true → Refused (Object k) ≡ effectOf t k
-          unfolding refusalAt
-          object-over-limit h =
-              let n = leb-false (e .object) maxObject (sym ed ∙ not-true d h) in
-              let x = object-is in
-              stops 6 (object-over refl known within (λ q. omega arith))
+  module _ (r : kindOf t k ≡ release) where
+    no-acquire : does t acquire (objectOf t k) k ≡ false
+    no-acquire = false-does t acquire (objectOf t k) k (λ a. omega arith)
 
-          module _ (ob : not d ≡ false) where
-            object-low : e .object ≤ maxObject
-            object-low = leb-true _ _ (sym ed ∙ not-false d ob)
+    its-release : does t release (objectOf t k) k ≡ true
+    its-release = true-does t release (objectOf t k) k r refl
 
-            limits : InLimits t k
-            limits = record { kind = known; thread = within; object = let l = object-low in let x = object-is in omega arith }
+    after-last : depth t (objectOf t k) h ≤ 1 → (holder t (objectOf t k) (k ∷ h) ≡ 0) × (depth t (objectOf t k) (k ∷ h) ≡ 0)
+    after-last d = rw (no-acquire, its-release, le-leb (depth t (objectOf t k) h) 1 d) (refl, omega arith)
 
-            held : getD table (e .object) 0 ≡ holder t (objectOf t k) (before k)
-            held = p .locks .is (e .object) object-low ∙ ap (λ (x : ℕ). holder t x (before k)) object-is
+    after-inner : 1 < depth t (objectOf t k) h
+        → (holder t (objectOf t k) (k ∷ h) ≡ holder t (objectOf t k) h) × (depth t (objectOf t k) (k ∷ h) ≡ depth t (objectOf t k) h - 1)
+    after-inner d = rw (no-acquire, its-release, lt-leb (depth t (objectOf t k) h) 1 d) (refl, refl)
 
-            pub acquires : e .kind ≡ acquire → getD table (e .object) 0 ≡ 0 → Holder (e .thread .number + 1) ≡ effectOf t k
-            unfolding effectOf
-            acquires y f =
-                let q : kindOf t k ≡ acquire = sym kind-is ∙ y in
-                let g : GoodEvent t k = record { limits = limits; acquire-free = λ x. sym held ∙ f; release-held = λ x. absurd (omega arith) } in
-                rw (good-clean t k g, eq-eqb (kindOf t k) acquire q) (ap Holder (let x = thread-is in omega arith))
+-- a good acquire or release has the effect that the model says
+changes : (t : Trace) (k : ℕ) → GoodEvent t k → (kindOf t k ≡ acquire) ⊎ (kindOf t k ≡ release) → (o d : ℕ)
+    → (holder t (objectOf t k) (k ∷ before k) ≡ o) × (depth t (objectOf t k) (k ∷ before k) ≡ d) → Hold o d ≡ effectOf t k
+unfolding effectOf
+changes t k g s o d w =
+    rw (good-clean t k g, true-either (eqb (kindOf t k) acquire) (eqb (kindOf t k) release) (⊎-elim (λ a. inl (eq-eqb _ _ a)) (λ r. inr (eq-eqb _ _ r)) s))
+    (sym (ap₂ Hold (w .0) (w .1)))
 
-            pub was-held : e .kind ≡ acquire → (getD table (e .object) 0 ≡ 0 → ⊥) → Refused (LockHeld k) ≡ effectOf t k
-            unfolding refusalAt
-            was-held y f = stops 7 (lock-held refl limits (sym kind-is ∙ y) (λ x. f (held ∙ x)))
+module _ {t : Trace} {k : ℕ} {holders depths : List ℕ} (p : Ready t k holders depths) (limits : InLimits t k) (e : Decoded) (is : plain e ≡ at t k) where
+  pub own-fits : Fits w8 (e .thread .number + 1)
+  own-fits = let l = limits .thread in let x = thread-is t k e is in record { fits = omega arith }
 
-            module _ (other : e .kind ≡ acquire → ⊥) where
-              pub releases : e .kind ≡ release → getD table (e .object) 0 ≡ e .thread .number + 1 → Holder 0 ≡ effectOf t k
-              unfolding effectOf
-              releases y f =
-                  let q : kindOf t k ≡ release = sym kind-is ∙ y in
-                  let x = thread-is in
-                  let h = held in
-                  let g : GoodEvent t k = record { limits = limits; acquire-free = λ z. absurd (omega arith); release-held = λ z. omega arith } in
-                  rw (good-clean t k g, ne-eqb (kindOf t k) acquire (omega arith), eq-eqb (kindOf t k) release q)
+  -- a lock's number is an index of the tables
+  pub object-below : e .object < maxObject + 1
+  object-below = let l = limits .object in let x = object-is t k e is in omega arith
 
-              pub not-by-holder : e .kind ≡ release → (getD table (e .object) 0 ≡ e .thread .number + 1 → ⊥) → Refused (NotHolder k) ≡ effectOf t k
-              unfolding refusalAt
-              not-by-holder y f = let x = thread-is in let h = held in stops 8 (not-holder refl limits (sym kind-is ∙ y) (λ z. f (omega arith)))
+  pub offset-fits : Fits w64 (e .object * 2)
+  offset-fits = let b = object-below in record { fits = omega arith }
 
-              pub passes : (e .kind ≡ release → ⊥) → Nothing ≡ effectOf t k
-              unfolding effectOf
-              passes f =
-                  let x = kind-is in
-                  let g : GoodEvent t k = record { limits = limits; acquire-free = λ z. absurd (other (x ∙ z)); release-held = λ z. absurd (f (x ∙ z)) } in
-                  rw (good-clean t k g, ne-eqb (kindOf t k) acquire (λ z. other (x ∙ z)), ne-eqb (kindOf t k) release (λ z. f (x ∙ z)))
+  held-by : getD holders (e .object) 0 ≡ holder t (objectOf t k) (before k)
+  held-by = let b = object-below in p .locks .holder-is (e .object) (omega arith) ∙ ap (λ (x : ℕ). holder t x (before k)) (object-is t k e is)
 
--- a lock's number is an index of the table
-pub object-below : (e : Decoded) (d : Bool) → d ≡ leb (e .object) maxObject → not d ≡ false → e .object < maxObject + 1
-object-below e d ed ob = let l = leb-true (e .object) maxObject (sym ed ∙ not-false d ob) in omega arith
+  how-deep : getD depths (e .object) 0 ≡ depth t (objectOf t k) (before k)
+  how-deep = let b = object-below in p .locks .depth-is (e .object) (omega arith) ∙ ap (λ (x : ℕ). depth t x (before k)) (object-is t k e is)
+
+  module _ (y : e .kind ≡ acquire) where
+    acquires : kindOf t k ≡ acquire
+    acquires = sym (kind-is t k e is) ∙ y
+
+    acquired : Free t (before k) k → Hold (e .thread .number + 1) (getD depths (e .object) 0 + 1) ≡ effectOf t k
+    acquired f =
+        let a = acquires in
+        let x = thread-is t k e is in
+        let d = how-deep in
+        let w = after-acquire t k (before k) a in
+        changes t k (record { limits = limits; acquire-free = λ z. f; release-held = λ z. absurd (omega arith) }) (inl a) _ _ (omega arith, omega arith)
+
+    pub takes : getD holders (e .object) 0 ≡ 0 → Hold (e .thread .number + 1) (getD depths (e .object) 0 + 1) ≡ effectOf t k
+    takes f = acquired (inl (sym held-by ∙ f))
+
+    pub deepens : getD holders (e .object) 0 ≡ e .thread .number + 1 → Hold (e .thread .number + 1) (getD depths (e .object) 0 + 1) ≡ effectOf t k
+    deepens f = let x = thread-is t k e is in let h = held-by in acquired (inr (omega arith))
+
+    pub was-held : (getD holders (e .object) 0 ≡ 0 → ⊥) → (getD holders (e .object) 0 ≡ e .thread .number + 1 → ⊥) → Refused (LockHeld k) ≡ effectOf t k
+    unfolding refusalAt
+    was-held f g =
+        let x = thread-is t k e is in
+        let h = held-by in
+        stops t k 7 (lock-held refl limits acquires (λ s. ⊎-elim (λ z. f (omega arith)) (λ z. g (omega arith)) s))
+
+  module _ (y : e .kind ≡ release) where
+    releases : kindOf t k ≡ release
+    releases = sym (kind-is t k e is) ∙ y
+
+    pub not-by-holder : (getD holders (e .object) 0 ≡ e .thread .number + 1 → ⊥) → Refused (NotHolder k) ≡ effectOf t k
+    unfolding refusalAt
+    not-by-holder f = let x = thread-is t k e is in let h = held-by in stops t k 8 (not-holder refl limits releases (λ z. f (omega arith)))
+
+    module _ (f : getD holders (e .object) 0 ≡ e .thread .number + 1) where
+      held : Held t (before k) k
+      held = let x = thread-is t k e is in let h = held-by in omega arith
+
+      good : GoodEvent t k
+      good = let r = releases in record { limits = limits; acquire-free = λ z. absurd (omega arith); release-held = λ z. held }
+
+      pub frees : getD depths (e .object) 0 ≤ 1 → Hold 0 0 ≡ effectOf t k
+      frees l = let d = how-deep in changes t k good (inr releases) 0 0 (after-last t k (before k) releases (omega arith))
+
+      pub undoes : 1 < getD depths (e .object) 0 → Hold (e .thread .number + 1) (getD depths (e .object) 0 - 1) ≡ effectOf t k
+      undoes l =
+          let d = how-deep in
+          let h = held-by in
+          let w = after-inner t k (before k) releases (omega arith) in
+          changes t k good (inr releases) _ _ (omega arith, omega arith)
+
+  pub passes : (e .kind ≡ acquire → ⊥) → (e .kind ≡ release → ⊥) → Nothing ≡ effectOf t k
+  unfolding effectOf
+  passes f g =
+      let x = kind-is t k e is in
+      let good : GoodEvent t k = record { limits = limits; acquire-free = λ z. absurd (f (x ∙ z)); release-held = λ z. absurd (g (x ∙ z)) } in
+      rw (good-clean t k good, ne-eqb (kindOf t k) acquire (λ z. f (x ∙ z)), ne-eqb (kindOf t k) release (λ z. g (x ∙ z)))

@@ -1,38 +1,41 @@
 -- What the walk over the events knows, and its ways.
-use Prim.Native.Nat.{ℕ, zero, suc, _+_, _≤_, _<_}
+use Prim.Native.Nat.{ℕ, zero, suc, _+_, _*_, _≤_, _<_}
 use native.Mathlib.Omega.{arith}
 use native.Mathlib.Numerals.{add-one}
 use mathlib.Core.Path.{_≡_, refl, sym, _∙_, ap}
 use mathlib.Core.Logic.{_≢_}
-use mathlib.Core.Bool.{true, false, cond, Bool}
+use mathlib.Core.Bool.{true, false, cond, _||_, Bool}
 use mathlib.Core.Option.{none, some}
 use mathlib.Core.List.{List, _∷_}
 use lib.ListN.{length, getD, set, length-set, getD-replicate, length-replicate}
 use lib.Seq.{getD-set-same, getD-set-other}
 use lib.Dec.{eqb}
+use mir.Val.{Fits}
+use mir.Syntax.{w64}
 use borrow.Author.Tests.{eqb-true, eqb-false}
-use Rattle.model.specs.Trace.{Trace, Valid, acquire, release, threadOf, kindOf, objectOf, does}
+use Rattle.model.specs.Trace.{Trace, Valid, acquire, release, kindOf, objectOf, does}
 use Rattle.model.specs.Lists.{before}
-use Rattle.model.specs.Good.{maxEvents, maxObject, holder}
+use Rattle.model.specs.Good.{maxEvents, maxObject, depth, holder}
 use Rattle.model.specs.Refusals.{eventRefusal, refusal}
-use Rattle.model.proofs.Tests.{by-cases, true-does, false-does, does-true, false-test}
+use Rattle.model.proofs.Tests.{by-cases, false-does, does-true, false-test}
 use Rattle.model.proofs.RefusalsExact.{refused-first, refused-none, clean-good}
 use Rattle.limits.specs.declared.Refusal.{Refusal}
 use Rattle.judging.specs.Judged.{refusalAt, named}
 use Rattle.judging.specs.Walk.{noLocks, LockTable, Ready, locking, refusedOr, effectOf}
 use Rattle.judging.specs.declared.Locks.{Locks}
 use Rattle.judging.specs.declared.Effect.{Effect}
-use Rattle.judging.specs.declared.Effect.the-variants.{Nothing, Holder, Refused}
+use Rattle.judging.specs.declared.Effect.the-variants.{Nothing, Hold, Refused}
 
--- the events before k are good, and the table is theirs
+-- the events before k are good, and the tables are theirs
 pub record Judging (t : Trace) (n k : ℕ) (locks : Locks) : Type 0 where
   pub size : n ≡ length t
   pub few : n ≤ maxEvents
   pub positive : 1 ≤ k
   pub high : k ≤ n + 1
   pub clean : (j : ℕ) → 1 ≤ j → j < k → eventRefusal t j ≡ 0
-  pub table : LockTable t (before k) (locks .holder)
-  pub wide : length (locks .holder) ≡ maxObject + 1
+  pub tables : LockTable t (before k) (locks .holder) (locks .depth)
+  pub holder-wide : length (locks .holder) ≡ maxObject + 1
+  pub depth-wide : length (locks .depth) ≡ maxObject + 1
 
 -- ---- what an event does
 
@@ -42,12 +45,11 @@ module _ (t : Trace) (k : ℕ) where
 
   -- the effect, by the refusal of the event
   stopped : (n : ℕ) (u : Effect) (r : Refusal) → refusedOr n k (locking t k) ≡ u → u ≡ Refused r → (n ≢ 0) × (refusalAt n k ≡ r)
-  stopped zero u r e f = absurd (never (eqb (kindOf t k) acquire) (eqb (kindOf t k) release) (e ∙ f))
+  stopped zero u r e f = absurd (never (eqb (kindOf t k) acquire || eqb (kindOf t k) release) _ _ (e ∙ f))
     where
-      never : (a b : Bool) → cond a (Holder (suc (threadOf t k))) (cond b (Holder 0) Nothing) ≡ Refused r → ⊥
-      never true b e = let z : _≡_ {A = ℕ} 0 1 = cc in omega arith
-      never false true e = let z : _≡_ {A = ℕ} 0 1 = cc in omega arith
-      never false false e = let z : _≡_ {A = ℕ} 0 1 = cc in omega arith
+      never : (b : Bool) (o d : ℕ) → cond b (Hold o d) Nothing ≡ Refused r → ⊥
+      never true o d e = let z : _≡_ {A = ℕ} 0 1 = cc in omega arith
+      never false o d e = let z : _≡_ {A = ℕ} 0 1 = cc in omega arith
   stopped (suc n) u r e f = ((λ z. omega arith), cc)
 
   -- an event that is not refused has its effect
@@ -62,34 +64,37 @@ module _ (t : Trace) (k : ℕ) where
   passed : effectOf t k ≡ Nothing → (eventRefusal t k ≡ 0) × (locking t k ≡ Nothing)
   passed e = unrefused Nothing (λ r f. let z : _≡_ {A = ℕ} 0 1 = cc in omega arith) e
 
-  held : (v : ℕ) → effectOf t k ≡ Holder v → (eventRefusal t k ≡ 0) × (locking t k ≡ Holder v)
-  held v e = unrefused (Holder v) (λ r f. let z : _≡_ {A = ℕ} 0 1 = cc in omega arith) e
+  held : (o d : ℕ) → effectOf t k ≡ Hold o d → (eventRefusal t k ≡ 0) × (locking t k ≡ Hold o d)
+  held o d e = unrefused (Hold o d) (λ r f. let z : _≡_ {A = ℕ} 0 1 = cc in omega arith) e
 
   -- no lock changes
-  after-pass : locking t k ≡ Nothing → (h : List ℕ) (x : ℕ) → holder t x (k ∷ h) ≡ holder t x h
+  after-pass : locking t k ≡ Nothing → (h : List ℕ) (x : ℕ) → (holder t x (k ∷ h) ≡ holder t x h) × (depth t x (k ∷ h) ≡ depth t x h)
   after-pass e h x =
       by-cases (eqb (kindOf t k) acquire)
       (λ a. let f = rw a at e in let z : _≡_ {A = ℕ} 0 1 = cc in absurd (omega arith))
       (λ a.
       by-cases (eqb (kindOf t k) release)
       (λ b. let f = rw (a, b) at e in let z : _≡_ {A = ℕ} 0 1 = cc in absurd (omega arith))
-      (λ b. rw (false-does t acquire x k (eqb-false _ _ a), false-does t release x k (eqb-false _ _ b))))
+      (λ b. rw (false-does t acquire x k (eqb-false _ _ a), false-does t release x k (eqb-false _ _ b)) (refl, refl)))
 
-  -- the event's lock has the new holder
-  after-hold : (v : ℕ) → locking t k ≡ Holder v → (h : List ℕ) → holder t (objectOf t k) (k ∷ h) ≡ v
-  after-hold v e h =
-      by-cases (eqb (kindOf t k) acquire)
-      (λ a. let f = rw a at e in rw (true-does t acquire (objectOf t k) k (eqb-true _ _ a) refl) cc)
-      (λ a.
-      by-cases (eqb (kindOf t k) release)
-      (λ b.
-      let f = rw (a, b) at e in
-      rw (false-does t acquire (objectOf t k) k (eqb-false _ _ a), true-does t release (objectOf t k) k (eqb-true _ _ b) refl) cc)
-      (λ b. let f = rw (a, b) at e in let z : _≡_ {A = ℕ} 0 1 = cc in absurd (omega arith)))
+  -- the event's lock has the new holder and depth
+  after-hold : (o d : ℕ) → locking t k ≡ Hold o d → (holder t (objectOf t k) (k ∷ before k) ≡ o) × (depth t (objectOf t k) (k ∷ before k) ≡ d)
+  after-hold o d e =
+      by-cases (eqb (kindOf t k) acquire || eqb (kindOf t k) release)
+      (λ a. let f = rw a at e in (cc, cc))
+      (λ a. let f = rw a at e in let z : _≡_ {A = ℕ} 0 1 = cc in absurd (omega arith))
 
   -- and no other lock changes
-  after-other : (h : List ℕ) (x : ℕ) → x ≢ objectOf t k → holder t x (k ∷ h) ≡ holder t x h
-  after-other h x ne = rw (quiet acquire x ne, quiet release x ne)
+  after-other : (h : List ℕ) (x : ℕ) → x ≢ objectOf t k → (holder t x (k ∷ h) ≡ holder t x h) × (depth t x (k ∷ h) ≡ depth t x h)
+  after-other h x ne = rw (quiet acquire x ne, quiet release x ne) (refl, refl)
+
+-- a table that was right has the new entry of lock o
+stored : (old new : ℕ → ℕ) (l : List ℕ) (o v : ℕ) → o < length l → ((x : ℕ) → x ≤ maxObject → getD l x 0 ≡ old x) → new o ≡ v
+    → ((x : ℕ) → x ≢ o → new x ≡ old x) → (x : ℕ) → x ≤ maxObject → getD (set l o v) x 0 ≡ new x
+stored old new l o v low is here other x b =
+    by-cases (eqb x o)
+    (λ q. rw (eqb-true x o q, getD-set-same l o v 0 low) (sym here))
+    (λ q. let ne = eqb-false x o q in rw (getD-set-other l o x v 0 ne) (is x b ∙ sym (other x ne)))
 
 next-before : (k : ℕ) → 1 ≤ k → before (k + 1) ≡ k ∷ before k
 next-before zero p = absurd (omega arith)
@@ -97,65 +102,86 @@ next-before (suc k) p = rw (add-one (suc k))
 
 -- ---- the ways
 
-pub judging-start : (t : Trace) (n : ℕ) (locks : Locks) → n ≡ length t → length t ≤ maxEvents → locks .holder ≡ noLocks → Judging t n 1 locks
+pub judging-start : (t : Trace) (n : ℕ) (locks : Locks) → n ≡ length t → length t ≤ maxEvents
+    → locks .holder ≡ noLocks → locks .depth ≡ noLocks → Judging t n 1 locks
 unfolding noLocks
-judging-start t n locks size few e =
+judging-start t n locks size few e f =
     record {
       size = size;
       few = omega arith;
       positive = omega arith;
       high = omega arith;
       clean = λ j p q. absurd (omega arith);
-      table = record { is = λ x h. rw e (getD-replicate (maxObject + 1) x 0 0 (omega arith)) };
-      wide = rw e (length-replicate {A = ℕ} (maxObject + 1) 0);
+      tables = record {
+        holder-is = λ x h. rw e (getD-replicate (maxObject + 1) x 0 0 (omega arith));
+        depth-is = λ x h. rw f (getD-replicate (maxObject + 1) x 0 0 (omega arith));
+      };
+      holder-wide = rw e (length-replicate {A = ℕ} (maxObject + 1) 0);
+      depth-wide = rw f (length-replicate {A = ℕ} (maxObject + 1) 0);
     }
 
 module _ {t : Trace} {n k : ℕ} {locks : Locks} (p : Judging t n k locks) (h : k ≤ n) where
   pub judging-valid : Valid t k
   judging-valid = record { positive = p .positive; bounded = let s = p .size in omega arith }
 
-  pub judging-ready : Ready t k (locks .holder)
-  judging-ready = record { valid = judging-valid; few = let s = p .size in let f = p .few in omega arith; locks = p .table }
+  pub judging-ready : Ready t k (locks .holder) (locks .depth)
+  judging-ready = record { valid = judging-valid; few = let s = p .size in let f = p .few in omega arith; locks = p .tables }
 
   more-clean : eventRefusal t k ≡ 0 → (j : ℕ) → 1 ≤ j → j < k + 1 → eventRefusal t j ≡ 0
   more-clean e j a b = by-cases (eqb j k) (λ q. rw (eqb-true j k q) e) (λ q. let ne = eqb-false j k q in p .clean j a (omega arith))
 
-  -- event k is good, and the new table is that after it
-  next : eventRefusal t k ≡ 0 → (l : Locks) → length (l .holder) ≡ maxObject + 1
-      → ((x : ℕ) → x ≤ maxObject → getD (l .holder) x 0 ≡ holder t x (k ∷ before k)) → Judging t n (k + 1) l
-  next e l w f =
+  -- event k is good, and the new tables are those after it
+  next : eventRefusal t k ≡ 0 → (l : Locks) → length (l .holder) ≡ maxObject + 1 → length (l .depth) ≡ maxObject + 1
+      → LockTable t (k ∷ before k) (l .holder) (l .depth) → Judging t n (k + 1) l
+  next e l v w f =
       record {
         size = p .size;
         few = p .few;
         positive = omega arith;
         high = omega arith;
         clean = more-clean e;
-        table = record { is = λ x b. rw (next-before k (p .positive)) (f x b) };
-        wide = w;
+        tables = rw (next-before k (p .positive)) f;
+        holder-wide = v;
+        depth-wide = w;
       }
 
   module _ (u : Effect) (eu : u ≡ effectOf t k) where
     pub judging-pass : u ≡ Nothing → (l : Locks) → l ≡ locks → Judging t n (k + 1) l
     judging-pass f l el =
         let w = passed t k (sym eu ∙ f) in
-        rw el (next (w .0) locks (p .wide) (λ x b. p .table .is x b ∙ sym (after-pass t k (w .1) (before k) x)))
-
-    pub judging-object : (v : ℕ) → u ≡ Holder v → (o : ℕ) → o ≡ objectOf t k → o < maxObject + 1
-    judging-object v f o eo =
-        let w = held t k v (sym eu ∙ f) in let b = clean-good t k (w .0) .limits .object in omega arith
-
-    pub judging-hold : (v : ℕ) → u ≡ Holder v → (o : ℕ) → o ≡ objectOf t k → (l : Locks) → l ≡ record { holder = set (locks .holder) o v } → Judging t n (k + 1) l
-    judging-hold v f o eo l el =
-        let w = held t k v (sym eu ∙ f) in
-        let b = judging-object v f o eo in
-        let y = p .wide in
         rw el
-        (next (w .0) (record { holder = set (locks .holder) o v }) (length-set (locks .holder) o v ∙ y) (λ x c.
-        by-cases (eqb x o)
-        (λ q. rw (eqb-true x o q, getD-set-same (locks .holder) o v 0 (omega arith), eo) (sym (after-hold t k v (w .1) (before k))))
-        (λ q.
-        let ne = eqb-false x o q in
-        rw (getD-set-other (locks .holder) o x v 0 ne) (p .table .is x c ∙ sym (after-other t k (before k) x (λ e. ne (e ∙ sym eo)))))))
+        (next (w .0) locks (p .holder-wide) (p .depth-wide) (record {
+          holder-is = λ x b. p .tables .holder-is x b ∙ sym (after-pass t k (w .1) (before k) x .0);
+          depth-is = λ x b. p .tables .depth-is x b ∙ sym (after-pass t k (w .1) (before k) x .1);
+        }))
+
+    module _ (v d : ℕ) (f : u ≡ Hold v d) (o : ℕ) (eo : o ≡ objectOf t k) where
+      pub judging-object : o < maxObject + 1
+      judging-object = let w = held t k v d (sym eu ∙ f) in let b = clean-good t k (w .0) .limits .object in omega arith
+
+      pub judging-offset : Fits w64 (o * 2)
+      judging-offset = let b = judging-object in record { fits = omega arith }
+
+      pub judging-hold : (l : Locks) → l ≡ record { holder = set (locks .holder) o v; depth = set (locks .depth) o d } → Judging t n (k + 1) l
+      judging-hold l el =
+          let w = held t k v d (sym eu ∙ f) in
+          let b = clean-good t k (w .0) .limits .object in
+          let y = p .holder-wide in
+          let z = p .depth-wide in
+          let c = after-hold t k v d (w .1) in
+          let x = objectOf t k in
+          rw (el, eo)
+          (next (w .0) (record { holder = set (locks .holder) x v; depth = set (locks .depth) x d })
+          (length-set (locks .holder) x v ∙ y)
+          (length-set (locks .depth) x d ∙ z)
+          (record {
+            holder-is =
+                stored (λ j. holder t j (before k)) (λ j. holder t j (k ∷ before k)) (locks .holder) x v (omega arith)
+                (p .tables .holder-is) (c .0) (λ j ne. after-other t k (before k) j ne .0);
+            depth-is =
+                stored (λ j. depth t j (before k)) (λ j. depth t j (k ∷ before k)) (locks .depth) x d (omega arith)
+                (p .tables .depth-is) (c .1) (λ j ne. after-other t k (before k) j ne .1);
+          }))
 
     pub judging-stop : (r : Refusal) → u ≡ Refused r → named (refusal t) ≡ some r
     unfolding effectOf

@@ -1,40 +1,45 @@
--- The walk over the events: the lock state, and what each event does to it.
+-- The walk over the events: the locks' holders and depths, and what each event does to them.
 use Prim.Native.Nat.{ℕ, zero, suc, _+_, _≤_}
 use mathlib.Core.Path.{_≡_}
-use mathlib.Core.Bool.{cond}
-use mathlib.Core.List.{List}
+use mathlib.Core.Bool.{cond, _||_}
+use mathlib.Core.List.{List, _∷_}
 use lib.ListN.{getD, length, replicate}
 use lib.Dec.{eqb}
-use Rattle.model.specs.Trace.{Trace, Valid, acquire, release, threadOf, kindOf}
+use Rattle.model.specs.Trace.{Trace, Valid, acquire, release, kindOf, objectOf}
 use Rattle.model.specs.Lists.{before}
-use Rattle.model.specs.Good.{maxEvents, maxObject, holder}
+use Rattle.model.specs.Good.{maxEvents, maxObject, depth, holder}
 use Rattle.model.specs.Refusals.{eventRefusal}
 use Rattle.judging.specs.Judged.{refusalAt}
 use Rattle.judging.specs.declared.Effect.{Effect}
-use Rattle.judging.specs.declared.Effect.the-variants.{Nothing, Holder, Refused}
+use Rattle.judging.specs.declared.Effect.the-variants.{Nothing, Hold, Refused}
 
--- nobody holds any lock
+-- nobody holds any lock: the holders, and the depths
 unfoldable pub noLocks : List ℕ
 noLocks = replicate (maxObject + 1) 0
 
--- a table has who holds each lock after a history: 0 for nobody, c + 1 for thread c
-pub record LockTable (t : Trace) (h : List ℕ) (table : List ℕ) : Type 0 where
-  pub is : (x : ℕ) → x ≤ maxObject → getD table x 0 ≡ holder t x h
+-- two tables have who holds each lock after a history (0 for nobody, c + 1 for thread c), and how deep
+pub record LockTable (t : Trace) (h holders depths : List ℕ) : Type 0 where
+  pub holder-is : (x : ℕ) → x ≤ maxObject → getD holders x 0 ≡ holder t x h
+  pub depth-is : (x : ℕ) → x ≤ maxObject → getD depths x 0 ≡ depth t x h
 
--- what `effect_at` asks: an event of a trace that is not too long, and the table of those before it
-pub record Ready (t : Trace) (k : ℕ) (table : List ℕ) : Type 0 where
+-- what `effect_at` and `lock_effect` ask: an event of a trace that is not too long, and the tables of those before it
+pub record Ready (t : Trace) (k : ℕ) (holders depths : List ℕ) : Type 0 where
   pub valid : Valid t k
   pub few : length t ≤ maxEvents
-  pub locks : LockTable t (before k) table
+  pub locks : LockTable t (before k) holders depths
 
--- what an event does to its lock: an acquire or a release gives it a holder
+-- what an event does to its lock: after an acquire or a release it has the model's holder and depth
 abbrev pub locking : Trace → ℕ → Effect
-locking t k = cond (eqb (kindOf t k) acquire) (Holder (suc (threadOf t k))) (cond (eqb (kindOf t k) release) (Holder 0) Nothing)
+locking t k =
+    cond (eqb (kindOf t k) acquire || eqb (kindOf t k) release)
+    (Hold (holder t (objectOf t k) (k ∷ before k)) (depth t (objectOf t k) (k ∷ before k)))
+    Nothing
 
 -- event k with refusal n, 0 for none: it is refused, or has its effect
 abbrev pub refusedOr : ℕ → ℕ → Effect → Effect
 refusedOr zero k u = u
 refusedOr (suc n) k u = Refused (refusalAt (suc n) k)
 
+-- what event k does after those before it
 unfoldable pub effectOf : Trace → ℕ → Effect
 effectOf t k = refusedOr (eventRefusal t k) k (locking t k)

@@ -4,41 +4,91 @@ use limits::Event;
 use limits::Refusal;
 use limits::Trace;
 ghost use mathlib.Core.Path.{_≡_};
-ghost use Rattle.model.specs.Good.{Good};
+ghost use Rattle.model.specs.Refusals.{InLimits};
 ghost use Rattle.limits.specs.Limits.{eventBytes};
 ghost use Rattle.format.specs.Bytes.{trace};
 ghost use Rattle.format.specs.Layout.{Placed, fileOf};
 ghost use Rattle.judging.specs.Judged.{fileRefusal};
 ghost use Rattle.judging.specs.Walk.{noLocks, Ready, effectOf};
 
-const LOCKS: usize = Event::MAX_OBJECT + 1;
-
-// Who holds each lock: 0 for nobody, c + 1 for thread c.
+// The locks: who holds each (0 for nobody, c + 1 for thread c), and how deep. A depth goes up to the number of events, past a u8.
 pub struct Locks {
-    pub holder: [u8; LOCKS],
+    pub holder: [u8; Event::OBJECTS],
+    pub depth: [u16; Event::OBJECTS],
 }
 
 impl Locks {
     // Nobody holds any.
     pub fn empty() -> Locks
         ensures { λ r. ⌜ r .holder ≡ noLocks ⌝ }
+        ensures { λ r. ⌜ r .depth ≡ noLocks ⌝ }
     {
         Locks {
-            holder: [0u8; LOCKS],
+            holder: [0u8; Event::OBJECTS],
+            depth: [0u16; Event::OBJECTS],
         }
     }
 }
 
-// What an event does: nothing to a lock, or it gives its lock a holder (0 for nobody, c + 1 for thread c), or it is refused.
+// What an event does: nothing to a lock, or its lock now has this holder at this depth, or it is refused.
 pub enum Effect {
     Nothing,
-    Holder(u8),
+    Hold(u8, u16),
     Refused(Refusal),
 }
 
+// What event k, whose kind, thread and object are within their limits, does to its lock after those before it. Refusals 8 and 9.
+// (Both tables are lent from one struct, so for one lifetime.)
+fn lock_effect<'a>(
+    ev: &[u8],
+    k: usize,
+    holder: &'a [u8; Event::OBJECTS],
+    depth: &'a [u16; Event::OBJECTS],
+) -> Effect
+    requires { ⌜ Ready (trace (now ev)) k (now holder) (now depth) ⌝ }
+    requires { ⌜ InLimits (trace (now ev)) k ⌝ }
+    ensures { λ r. ⌜ r ≡ effectOf (trace (now (ev .entry))) k ⌝ }
+{
+    let e = format::event_at(ev, k);
+    let number = k as u16;
+    let thread = e.thread;
+    let own = thread.number + 1;
+    let object = e.object;
+    let held = holder[object];
+    let deep = depth[object];
+    if e.kind == Event::ACQUIRE {
+        let deeper = deep + 1;
+        if held == 0 {
+            return Effect::Hold(own, deeper);
+        }
+        // its holder may acquire it again, one level deeper
+        if held == own {
+            return Effect::Hold(own, deeper);
+        }
+        // another thread holds it
+        return Effect::Refused(Refusal::LockHeld(number));
+    }
+    if e.kind == Event::RELEASE {
+        if held != own {
+            return Effect::Refused(Refusal::NotHolder(number));
+        }
+        // only the release of the last level frees it
+        if deep <= 1 {
+            return Effect::Hold(0, 0);
+        }
+        return Effect::Hold(own, deep - 1);
+    }
+    Effect::Nothing
+}
+
 // What event k does after those before it. Refusals 5 to 9, in their order.
-fn effect_at(ev: &[u8], k: usize, holder: &[u8; LOCKS]) -> Effect
-    requires { ⌜ Ready (trace (now ev)) k (now holder) ⌝ }
+fn effect_at<'a>(
+    ev: &[u8],
+    k: usize,
+    holder: &'a [u8; Event::OBJECTS],
+    depth: &'a [u16; Event::OBJECTS],
+) -> Effect
+    requires { ⌜ Ready (trace (now ev)) k (now holder) (now depth) ⌝ }
     ensures { λ r. ⌜ r ≡ effectOf (trace (now (ev .entry))) k ⌝ }
 {
     let e = format::event_at(ev, k);
@@ -53,21 +103,7 @@ fn effect_at(ev: &[u8], k: usize, holder: &[u8; LOCKS]) -> Effect
     if !e.object_in_limit() {
         return Effect::Refused(Refusal::Object(number));
     }
-    let object = e.object;
-    let own = thread.number + 1;
-    if e.kind == Event::ACQUIRE {
-        if holder[object] == 0 {
-            return Effect::Holder(own);
-        }
-        return Effect::Refused(Refusal::LockHeld(number));
-    }
-    if e.kind == Event::RELEASE {
-        if holder[object] == own {
-            return Effect::Holder(0);
-        }
-        return Effect::Refused(Refusal::NotHolder(number));
-    }
-    Effect::Nothing
+    lock_effect(ev, k, holder, depth)
 }
 
 // Refusals 5 to 9, event by event, of a file that has been read.
@@ -80,12 +116,13 @@ fn judge_events(file: &[u8], t: Trace) -> File
     let mut locks = Locks::empty();
     let mut k = 1;
     while k <= n {
-        let effect = effect_at(ev, k, &locks.holder);
+        let effect = effect_at(ev, k, &locks.holder, &locks.depth);
         match effect {
             Effect::Nothing => {}
-            Effect::Holder(h) => {
+            Effect::Hold(h, d) => {
                 let object = format::object_at(ev, k);
                 locks.holder[object] = h;
+                locks.depth[object] = d;
             }
             Effect::Refused(r) => {
                 return File::Refused(r);

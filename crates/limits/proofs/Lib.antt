@@ -1,1 +1,3 @@
 pub mod LimitLaws
+-- An object as an index
+pub mod IndexLaws

@@ -36,6 +36,9 @@ impl Event {
     // The highest number of a cell or lock.
     pub const MAX_OBJECT: usize = 255;
 
+    // The places of a table by object.
+    pub const OBJECTS: usize = Event::MAX_OBJECT + 1;
+
     // The kinds, from the lowest to the highest.
     pub const READ: u8 = 1;
 
@@ -121,6 +124,7 @@ pub enum Refusal {
     Kind(u16),
     Thread(u16),
     Object(u16),
+    // by another thread
     LockHeld(u16),
     NotHolder(u16),
     // question 3, and question 2 for all events at once: the lent list; the writer: the buffer, or lists of different lengths

@@ -1,2 +1,2 @@
--- A step of the passes that link events by their objects.
+-- A step of the pass that finds observed writes.
 pub mod Step

@@ -1,21 +1,23 @@
 -- What the links of an event say of the trace.
 use Prim.Native.Nat.{ℕ, zero, suc, _≤_, _<_}
 use native.Mathlib.Omega.{arith}
-use mathlib.Core.Path.{_≡_, refl, sym, _∙_}
+use mathlib.Core.Path.{_≡_, refl, sym, _∙_, ap}
 use mathlib.Core.Logic.{_≢_}
 use mathlib.Core.Bool.{Bool, true}
 use mathlib.Core.List.{List, [], _∷_}
-use lib.ListN.{length}
+use lib.ListN.{length, getD}
 use lib.Dec.{eqb}
-use borrow.Author.Tests.{eqb-true, eqb-false, eq-eqb, ltb-true}
-use Rattle.model.specs.Trace.{Trace, read, write, acquire, threadOf, kindOf, objectOf, does}
+use borrow.Author.Tests.{eqb-true, eqb-false, eq-eqb, ne-eqb, ltb-true}
+use Rattle.model.specs.Trace.{Trace, Valid, read, write, acquire, threadOf, kindOf, objectOf, does}
 use Rattle.model.specs.Lists.{upTo, before, numbers, nearest, is}
 use Rattle.model.specs.Observed.{observed}
+use Rattle.model.specs.Sections.{isOutermost, isLast}
 use Rattle.model.specs.Cone.{Earlier, givesBack, matching}
 use Rattle.model.proofs.Tests.{by-cases, clash, both, is-true, true-is}
 use Rattle.model.proofs.Lists.{nearest-mem, mem-before}
+use Rattle.model.proofs.SectionsExact.{outermost-acquires, last-releases}
 use Rattle.model.proofs.ConeExact.{matching-valid}
-use Rattle.links.specs.Links.{previous, observedOr, observedBy, releaseOf}
+use Rattle.links.specs.Links.{previous, observedOr, observedBy, releaseOf, Released}
 
 -- ---- the nearest event
 
@@ -73,19 +75,43 @@ module _ (t : Trace) where
   unfolding observedOr observed
   observed-less k h = by-cases (eqb (kindOf t k) read) (λ e. rw e (nearest-less (λ j. does t write (objectOf t k) j) k h)) (λ e. rw e h)
 
-  -- ---- the matching release of an acquire
+  -- ---- where a section ends
+
+  matching-acquires : (k : ℕ) → matching t k ≢ 0 → (kindOf t k ≡ acquire) × (k < matching t k)
+  unfolding matching givesBack
+  matching-acquires k ne =
+      by-cases (isOutermost t k)
+      (λ e. (outermost-acquires t k e, rw e (ltb-true k _ (both _ _ (nearest-true (λ j. givesBack t k j) (numbers t) (rw e at ne)) .0))))
+      (λ e. let z = rw e at ne in absurd (z refl))
 
   pub acquires-release : (k : ℕ) → kindOf t k ≡ acquire → releaseOf t k ≡ matching t k
   unfolding releaseOf
-  acquires-release k e = rw (eq-eqb _ _ e)
+  acquires-release k e = by-cases (isLast t k) (λ l. let r = last-releases t k l in absurd (omega arith)) (λ l. rw l)
 
-  pub release-acquires : (k : ℕ) → releaseOf t k ≢ 0 → (kindOf t k ≡ acquire) × (matching t k ≡ releaseOf t k)
+  -- a link to another event is that of an acquire
+  pub release-acquires : (k : ℕ) → releaseOf t k ≢ 0 → releaseOf t k ≢ k → (kindOf t k ≡ acquire) × (matching t k ≡ releaseOf t k)
   unfolding releaseOf
-  release-acquires k ne = by-cases (eqb (kindOf t k) acquire) (λ e. (eqb-true _ _ e, rw e)) (λ e. absurd (rw e at ne refl))
+  release-acquires k ne other = by-cases (isLast t k) (λ l. let z = rw l at other in absurd (z refl)) (λ l. rw l (matching-acquires k (rw l at ne) .0, refl))
 
-  pub release-after : (k : ℕ) → releaseOf t k ≢ 0 → (k < releaseOf t k) × (releaseOf t k ≤ length t)
-  unfolding matching givesBack
-  release-after k ne =
-      let e = release-acquires k ne .1 in
-      let m : matching t k ≢ 0 = λ z. ne (sym e ∙ z) in
-      rw (← e) (ltb-true k _ (both _ _ (nearest-true (λ j. givesBack t k j) (numbers t) m) .0), matching-valid t k m .bounded)
+  -- a last release is the event that is linked to itself
+  last-release : (k : ℕ) → 1 ≤ k → isLast t k ≡ eqb (releaseOf t k) k
+  unfolding releaseOf
+  last-release k p =
+      by-cases (isLast t k)
+      (λ l. rw (l, eq-eqb k k refl))
+      (λ l.
+      let ne : matching t k ≢ k = λ z. let y = matching-acquires k (λ u. let v : ⊥ = omega arith in v) .1 in let v : ⊥ = omega arith in v in
+      rw (l, ne-eqb (matching t k) k ne))
+
+  -- so the table of the ends tells
+  pub released-last : {rel : List ℕ} → Released t rel → {k : ℕ} → Valid t k → isLast t k ≡ eqb (getD rel k 0) k
+  released-last r {k} v = last-release k (v .positive) ∙ ap (λ (j : ℕ). eqb j k) (sym (r .is k (v .bounded)))
+
+  pub release-after : (k : ℕ) → 1 ≤ k → k ≤ length t → releaseOf t k ≢ 0 → (k ≤ releaseOf t k) × (releaseOf t k ≤ length t)
+  unfolding releaseOf
+  release-after k p q ne =
+      by-cases (isLast t k)
+      (λ l. rw l (omega arith, q))
+      (λ l.
+      let m : matching t k ≢ 0 = rw l at ne in
+      let z = matching-acquires k m .1 in rw l (omega arith, matching-valid t k m .bounded))

@@ -2,18 +2,14 @@
 use Prim.Native.Nat.{ℕ, zero, suc, _+_, _≤_, _<_}
 use native.Mathlib.Omega.{arith}
 use mathlib.Core.Path.{_≡_, refl, _∙_, ap}
-use mathlib.Core.List.{List, [], _∷_, map, _++_, reverseAux, List·Memᴰ·head, List·Memᴰ·tail}
+use mathlib.Core.List.{List, map, _++_, List·Memᴰ·head, List·Memᴰ·tail}
 use lib.ListN.{length, getD}
 use lib.Dec.{eqb}
 use borrow.Author.Tests.{eqb-true, eqb-false}
 use Rattle.model.specs.Trace.{Trace}
-use Rattle.model.specs.Lists.{_∈_, upTo, numbers}
+use Rattle.model.specs.Lists.{_∈_, numbers}
 use Rattle.model.proofs.Tests.{by-cases}
-
--- the d numbers after k
-abbrev pub after : ℕ → ℕ → List ℕ
-after k zero = []
-after k (suc d) = suc k ∷ after (suc k) d
+use Rattle.model.proofs.Lists.{after, numbers-split}
 
 pub after-mem : (d k j : ℕ) → k < j → j ≤ k + d → j ∈ after k d
 after-mem zero k j p q = absurd (omega arith)
@@ -21,10 +17,6 @@ after-mem (suc d) k j p q =
     by-cases (eqb j (suc k))
     (λ e. List·Memᴰ·head (eqb-true j (suc k) e))
     (λ e. let ne = eqb-false j (suc k) e in List·Memᴰ·tail (after-mem d (suc k) j (omega arith) (omega arith)))
-
-pub numbers-split : (t : Trace) (d k : ℕ) → k + d ≡ length t → numbers t ≡ reverseAux (upTo k) (after k d)
-numbers-split t zero k e = let z : length t ≡ k = omega arith in rw z
-numbers-split t (suc d) k e = numbers-split t d (suc k) (omega arith)
 
 -- all of them come after 0
 pub numbers-after : (t : Trace) → numbers t ≡ after 0 (length t)

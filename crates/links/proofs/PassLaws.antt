@@ -75,8 +75,8 @@ module _ {f : ℕ → ℕ} {n : ℕ} {out₀ h out : List ℕ} (p : Listed f n o
   listed-length o e = p .beyond .long ∙ e
 
   -- an event of the trace may take a step
-  pub listed-ready : {t : Trace} {k : ℕ} → Good t → Valid t k → k ≤ n → (asks gives : ℕ) → asks < gives → Ready t k asks gives out
-  listed-ready g v l asks gives h = let b = p .long in record { good = g; valid = v; apart = h; long = omega arith }
+  pub listed-ready : {t : Trace} {k : ℕ} → Good t → Valid t k → k ≤ n → Ready t k out
+  listed-ready g v l = let b = p .long in record { good = g; valid = v; long = omega arith }
 
 -- ---- the table of the last events
 
@@ -93,32 +93,6 @@ module _ (test : ℕ → ℕ → Bool) {size : ℕ} (h : List ℕ) {table : List
   pub nearest-put : (x : ℕ) → x ≤ size → test x k ≡ true → ((c : ℕ) → c ≢ x → test c k ≡ false) → Nearest test size (k ∷ h) (set table x k)
   nearest-put x l yes-x none = table-put p (λ c. nearest (test c) (k ∷ h)) x k l (rw yes-x) (λ c ne. rw (none c ne))
 
--- ---- a step of a pass
-
--- the link of event k, those of h past: where k asks, the last that gives on its object
-unfoldable pub linkOf : Trace → ℕ → ℕ → ℕ → List ℕ → ℕ → ℕ
-linkOf t asks gives other h k = cond (eqb (kindOf t k) asks) (nearest (does t gives (objectOf t k)) h) other
-
--- the pass goes on: the table knows event k too, and the list has its link
-module _ {t : Trace} (good : Good t) {k : ℕ} (v : Valid t k) {asks gives other : ℕ} (h : List ℕ) {table out table′ out′ : List ℕ}
-    (p : Nearest (does t gives) maxObject h table) (s : Stepped t k asks gives other table out table′ out′) where
-  pub step-knows : Nearest (does t gives) maxObject (k ∷ h) table′
-  step-knows =
-      let x = objectOf t k in
-      by-cases (eqb (kindOf t k) gives)
-      (λ e.
-      let te : table′ ≡ set table x k = s .taken ∙ rw e in
-      rw te (nearest-put (does t gives) h p k x (good .object-limit k v) (true-does t gives x k (eqb-true _ _ e) refl) (λ c ne. false-test (does-true t gives c k) (λ d. ne (sym (d .1))))))
-      (λ e.
-      let te : table′ ≡ table = s .taken ∙ rw e in
-      rw te (nearest-same (does t gives) h p k (λ c. false-does t gives c k (eqb-false _ _ e))))
-
-  pub step-listed : {f : ℕ → ℕ} {n : ℕ} {out₀ : List ℕ} → Listed f n out₀ h out → k ≤ n → f k ≡ linkOf t asks gives other h k → Listed f n out₀ (k ∷ h) out′
-  unfolding linkOf
-  step-listed l m ef =
-      let link : ℕ → ℕ = λ w. cond (eqb (kindOf t k) asks) w other in
-      rw (s .linked) (listed-more l (v .positive) m (link (getD table (objectOf t k) 0)) (ap link (p .is (objectOf t k) (good .object-limit k v)) ∙ sym ef))
-
 -- ---- forwards
 
 -- of the first n events those before k have passed: what the table knows, and the list
@@ -130,7 +104,7 @@ pub record Forward (t : Trace) (Knows : ℕ → List ℕ → Type 0) (f : ℕ �
   pub knows : Knows k table
   pub listed : Listed f n out₀ (before k) out
 
-next-before : (k : ℕ) → 1 ≤ k → k ∷ before k ≡ before (k + 1)
+pub next-before : (k : ℕ) → 1 ≤ k → k ∷ before k ≡ before (k + 1)
 next-before zero p = absurd (omega arith)
 next-before (suc k) p = ap before (sym (add-one (suc k)))
 
@@ -138,7 +112,7 @@ nearest-next : (test : ℕ → ℕ → Bool) {size : ℕ} (k : ℕ) {table : Lis
 nearest-next test {size} k {table} p = subst (λ (h : List ℕ). Nearest test size h table) (next-before k p)
 
 module _ {t : Trace} {Knows : ℕ → List ℕ → Type 0} {f : ℕ → ℕ} {n : ℕ} where
-  forward-start : {out : List ℕ} → RoomFor t n out → (v : ℕ) → v ≡ f 0 → (table : List ℕ) → Knows 1 table → Forward t Knows f n 1 (set out 0 v) table (set out 0 v)
+  pub forward-start : {out : List ℕ} → RoomFor t n out → (v : ℕ) → v ≡ f 0 → (table : List ℕ) → Knows 1 table → Forward t Knows f n 1 (set out 0 v) table (set out 0 v)
   forward-start {out} r v ev table kn =
       record { good = r .good; few = r .few; low = omega arith; high = omega arith; knows = kn; listed = listed-start f out v (r .long) ev }
 
@@ -152,7 +126,7 @@ module _ {t : Trace} {Knows : ℕ → List ℕ → Type 0} {f : ℕ → ℕ} {n 
         record { table = forward-end h; beyond = record { long = c .long ∙ b .long; kept = λ j l. c .kept j l ∙ b .kept j l } }
 
     module _ (h : k ≤ n) where
-      forward-more : {table′ out′ : List ℕ} → Knows (k + 1) table′ → Listed f n out₀ (k ∷ before k) out′ → Forward t Knows f n (k + 1) out₀ table′ out′
+      pub forward-more : {table′ out′ : List ℕ} → Knows (k + 1) table′ → Listed f n out₀ (k ∷ before k) out′ → Forward t Knows f n (k + 1) out₀ table′ out′
       forward-more kn l =
           record { good = p .good; few = p .few; low = omega arith; high = omega arith; knows = kn; listed = rw (next-before k (p .low)) at l }
 
@@ -198,9 +172,22 @@ pub observe-start : {t : Trace} {n : ℕ} {out : List ℕ} → RoomFor t n out �
 unfolding observedOr
 observe-start r other = forward-start r other refl _ (table-new _ maxObject (λ c. refl))
 
+-- the table knows event k too
+observe-knows : {t : Trace} {k other : ℕ} {last out last′ out′ : List ℕ} → Good t → Valid t k → LastWrites t k last → Stepped t k other last out last′ out′ → LastWrites t (k + 1) last′
+observe-knows {t} {k} g v p s =
+    let x = objectOf t k in
+    nearest-next (does t write) k (v .positive)
+    (by-cases (eqb (kindOf t k) write)
+    (λ e.
+    let te = s .taken ∙ rw e in
+    rw te (nearest-put (does t write) (before k) p k x (g .object-limit k v) (true-does t write x k (eqb-true _ _ e) refl) (λ c ne. false-test (does-true t write c k) (λ d. ne (sym (d .1))))))
+    (λ e. let te = s .taken ∙ rw e in rw te (nearest-same (does t write) (before k) p k (λ c. false-does t write c k (eqb-false _ _ e)))))
+
 pub observe-more : {t : Trace} {other n k : ℕ} {out₀ last out last′ out′ : List ℕ} → Forward t (LastWrites t) (observedOr other t) n k out₀ last out → k ≤ n
-    → Stepped t k read write other last out last′ out′ → Forward t (LastWrites t) (observedOr other t) n (k + 1) out₀ last′ out′
-unfolding observedOr observed linkOf
-observe-more {t} {k = k} p h s =
+    → Stepped t k other last out last′ out′ → Forward t (LastWrites t) (observedOr other t) n (k + 1) out₀ last′ out′
+unfolding observedOr observed
+observe-more {t} {other} {k = k} {last = last} p h s =
     let v = forward-valid p h in
-    forward-more p h (nearest-next (does t write) k (p .low) (step-knows (p .good) v (before k) (p .knows) s)) (step-listed (p .good) v (before k) (p .knows) s (p .listed) h refl)
+    let link : ℕ → ℕ = λ w. cond (eqb (kindOf t k) read) w other in
+    forward-more p h (observe-knows (p .good) v (p .knows) s)
+    (rw (s .linked) (listed-more (p .listed) (p .low) h (link (getD last (objectOf t k) 0)) (ap link (p .knows .is (objectOf t k) (p .good .object-limit k v)))))

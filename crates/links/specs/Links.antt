@@ -5,10 +5,11 @@ use mathlib.Core.Bool.{cond}
 use mathlib.Core.List.{List}
 use lib.ListN.{length, getD}
 use lib.Dec.{eqb}
-use Rattle.model.specs.Trace.{Trace, read, acquire, threadOf, kindOf}
+use Rattle.model.specs.Trace.{Trace, read, threadOf, kindOf}
 use Rattle.model.specs.Lists.{before, nearest, is}
 use Rattle.model.specs.Observed.{observed}
 use Rattle.model.specs.Good.{Good}
+use Rattle.model.specs.Sections.{isLast}
 use Rattle.model.specs.Cone.{matching}
 
 -- the event before k in its thread; 0 where there is none
@@ -23,9 +24,9 @@ observedOr other t k = cond (eqb (kindOf t k) read) (observed t k) other
 abbrev pub observedBy : Trace → ℕ → ℕ
 observedBy t = observedOr 0 t
 
--- the matching release of an acquire; 0 where there is none, and for every other event
+-- where the section ends that event k begins or ends: the matching release of an outermost acquire, a last release itself; 0 where there is none, and for every other event
 unfoldable pub releaseOf : Trace → ℕ → ℕ
-releaseOf t k = cond (eqb (kindOf t k) acquire) (matching t k) 0
+releaseOf t k = cond (isLast t k) k (matching t k)
 
 -- a list has f k at each place k from 0 to n
 pub record Table (f : ℕ → ℕ) (n : ℕ) (l : List ℕ) : Type 0 where
@@ -42,11 +43,15 @@ pub record Filled (f : ℕ → ℕ) (n : ℕ) (l l′ : List ℕ) : Type 0 where
   pub table : Table f n l′
   pub beyond : Beyond n l l′
 
+-- a list that has the ends of sections for all events
+abbrev pub Released : Trace → List ℕ → Type 0
+Released t rel = Table (releaseOf t) (length t) rel
+
 -- the links of a trace's events
 pub record Linked (t : Trace) (prev obs rel : List ℕ) : Type 0 where
   pub earlier : Table (previous t) (length t) prev
   pub seen : Table (observedBy t) (length t) obs
-  pub closing : Table (releaseOf t) (length t) rel
+  pub closing : Released t rel
 
 -- a good trace, and room for a table of the links of its first n events
 pub record RoomFor (t : Trace) (n : ℕ) (out : List ℕ) : Type 0 where

@@ -1,16 +1,17 @@
-// What each event is linked to: tables of the links of all events, each filled in one pass.
+// What each event is linked to: tables of the links of all events, filled as the events pass.
 // A table has event k's link at place k; at place 0 it has what stands for no link.
 use limits::Event;
 use limits::Thread;
-use linking::OBJECTS;
+use limits::Trace;
 ghost use lib.ListN.{length};
 ghost use Rattle.format.specs.Bytes.{trace};
+ghost use Rattle.sections.specs.Sections.{depthAt};
 ghost use Rattle.links.specs.Links.{previous, observedOr, observedBy, releaseOf, Table, Filled, Linked, RoomFor, Room, Rooms};
 
 const THREADS: usize = Thread::MAX as usize + 1;
 
 // The event before each in its thread: the last one of each thread, as the events pass.
-pub fn previous_links(ev: &[u8], out: &mut [u16])
+fn previous_links(ev: &[u8], out: &mut [u16])
     requires { ⌜ Room (trace (now ev)) (now out) ⌝ }
     ensures { λ _. ⌜ Table (previous (trace (now (ev .entry)))) (length (trace (now (ev .entry)))) (now (out .exit)) ⌝ }
 {
@@ -32,34 +33,51 @@ pub fn observe(ev: &[u8], n: usize, other: u16, out: &mut [u16])
     requires { ⌜ RoomFor (trace (now ev)) n (now out) ⌝ }
     ensures { λ _. ⌜ Filled (observedOr other (trace (now (ev .entry)))) n (now (out .entry)) (now (out .exit)) ⌝ }
 {
-    let mut last = [0u16; OBJECTS];
+    let mut last = [0u16; Event::OBJECTS];
     out[0] = other;
     let mut k = 1;
     while k <= n {
-        linking::link_event(ev, k, Event::READ, Event::WRITE, other, &mut last, out);
+        linking::link_event(ev, k, other, &mut last, out);
         k += 1;
     }
 }
 
 // The observed write of each read.
-pub fn observed_links(ev: &[u8], out: &mut [u16])
+fn observed_links(ev: &[u8], out: &mut [u16])
     requires { ⌜ Room (trace (now ev)) (now out) ⌝ }
     ensures { λ _. ⌜ Table (observedBy (trace (now (ev .entry)))) (length (trace (now (ev .entry)))) (now (out .exit)) ⌝ }
 {
     observe(ev, format::count(ev), 0, out);
 }
 
-// The matching release of each acquire: the next release of each lock, as the events pass backwards.
-// It is by the acquire's thread: before it nobody else can take the lock or release it.
+// How deep each event's lock is held before it, as the events pass.
+fn depth_links(ev: &[u8], out: &mut [u16])
+    requires { ⌜ Room (trace (now ev)) (now out) ⌝ }
+    ensures { λ _. ⌜ Table (depthAt (trace (now (ev .entry)))) (length (trace (now (ev .entry)))) (now (out .exit)) ⌝ }
+{
+    let n = format::count(ev);
+    let mut depth = [0u16; Event::OBJECTS];
+    out[0] = 0;
+    let mut k = 1;
+    while k <= n {
+        sections::count_event(ev, k, &mut depth, out);
+        k += 1;
+    }
+}
+
+// Where each section ends: the next last release of each lock, as the events pass backwards.
+// It is by the outermost acquire's thread: before it nobody else can take the lock or release it.
 fn release_links(ev: &[u8], out: &mut [u16])
     requires { ⌜ Room (trace (now ev)) (now out) ⌝ }
     ensures { λ _. ⌜ Table (releaseOf (trace (now (ev .entry)))) (length (trace (now (ev .entry)))) (now (out .exit)) ⌝ }
 {
-    let mut next = [0u16; OBJECTS];
+    let mut depths = [0u16; Trace::PLACES];
+    depth_links(ev, &mut depths);
+    let mut next = [0u16; Event::OBJECTS];
     out[0] = 0;
     let mut k = format::count(ev);
     while 0 < k {
-        linking::link_event(ev, k, Event::ACQUIRE, Event::RELEASE, 0, &mut next, out);
+        sections::close_event(ev, k, &depths, &mut next, out);
         k -= 1;
     }
 }

@@ -24,8 +24,8 @@ path-start : (t : Trace) (m : ℕ) (p q : List ℕ) → path t m p q (length p +
 unfolding pathAt
 path-start t m p q = let e : length p + length q - (0 + 0) ≡ length p + length q = omega arith in rw e
 
-module _ {t : Trace} {obs p q area out : List ℕ} (g : Given t obs p q area out) (c : Clear area) where
-  pub ready-start : (m : ℕ) → Ready t obs p q m 0 0 area out
+module _ {t : Trace} {obs rel p q area out : List ℕ} (g : Given t obs rel p q area out) (c : Clear area) where
+  pub ready-start : (m : ℕ) → Ready t obs rel p q m 0 0 area out
   ready-start m = record { given = g; p-in = omega arith; q-in = omega arith; sound = clear-sound t m p q area c }
 
   pub found-clear : {m : ℕ} {area₁ out′ : List ℕ} {r : Bool} → Answer t m p q 0 (pathAt t m p q 0 0) area₁ out out′ r → length area₁ ≡ length area
@@ -42,17 +42,17 @@ take-zero zero k h = refl
 take-zero (suc n) zero h = absurd (omega arith)
 take-zero (suc n) (suc k) h = ap (λ (l : List ℕ). 0 ∷ l) (take-zero n k (omega arith))
 
-module _ {t : Trace} {obs p q area out : List ℕ} (g : Given t obs p q area out) (last : ℕ) (e : last ≡ state q (length p) (length q)) where
+module _ {t : Trace} {obs rel p q area out : List ℕ} (g : Given t obs rel p q area out) (last : ℕ) (e : last ≡ state q (length p) (length q)) where
   used-in : last / 8 + 1 ≤ length area
   used-in = let h = g .states in omega arith
 
   pub used-front : last / 8 + 1 ≡ length (take (last / 8 + 1) area)
   used-front = sym (length-take-le (last / 8 + 1) area used-in)
 
-  pub used-given : Given t obs p q (take (last / 8 + 1) area) out
+  pub used-given : Given t obs rel p q (take (last / 8 + 1) area) out
   used-given =
       let f : last / 8 + 1 ≡ length (take (last / 8 + 1) area) = used-front in
-      record { table = g .table; p-valid = g .p-valid; q-valid = g .q-valid; p-few = g .p-few; q-few = g .q-few; states = omega arith; room = g .room }
+      record { table = g .table; released = g .released; p-valid = g .p-valid; q-valid = g .q-valid; p-few = g .p-few; q-few = g .q-few; states = omega arith; room = g .room }
 
   pub used-clear : Clear area → Clear (take (last / 8 + 1) area)
   unfolding Clear

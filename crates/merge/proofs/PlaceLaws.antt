@@ -113,7 +113,7 @@ module _ {t : Trace} {m : ℕ} {p q area₁ out out₁ : List ℕ} {at : ℕ} wh
 
 -- ---- the ways through
 
-module _ {t : Trace} {obs p q : List ℕ} {m i j : ℕ} {area out : List ℕ} (ready : Ready t obs p q m i j area out) where
+module _ {t : Trace} {obs rel p q : List ℕ} {m i j : ℕ} {area out : List ℕ} (ready : Ready t obs rel p q m i j area out) where
   in-range : state q i j < 8 * length area
   in-range =
       let c : state q i j ≤ state q (length p) (length q) = state-in (length q) i (length p) j (ready .p-in) (ready .q-in) in
@@ -134,11 +134,11 @@ module _ {t : Trace} {obs p q : List ℕ} {m i j : ℕ} {area out : List ℕ} (r
   unfolding Sound
   dead b k ek e w = nothing (ready .sound i j (ready .p-in) (ready .q-in) (sym (e ∙ ap (isMarked area) ek) ∙ w))
 
-  pub still-ready : {area₁ out₁ : List ℕ} → Sound t m p q area₁ → length area₁ ≡ length area → length out₁ ≡ length out → Ready t obs p q m i j area₁ out₁
+  pub still-ready : {area₁ out₁ : List ℕ} → Sound t m p q area₁ → length area₁ ≡ length area → length out₁ ≡ length out → Ready t obs rel p q m i j area₁ out₁
   still-ready s la lo =
       let g = ready .given in
       record {
-        given = record { table = g .table; p-valid = g .p-valid; q-valid = g .q-valid; p-few = g .p-few; q-few = g .q-few; states = omega arith; room = omega arith };
+        given = record { table = g .table; released = g .released; p-valid = g .p-valid; q-valid = g .q-valid; p-few = g .p-few; q-few = g .q-few; states = omega arith; room = omega arith };
         p-in = ready .p-in;
         q-in = ready .q-in;
         sound = s;
@@ -186,7 +186,7 @@ module _ {t : Trace} {obs p q : List ℕ} {m i j : ℕ} {area out : List ℕ} (r
   pub others-steps : j < length q → Steps t obs q p j i
   others-steps h = let g = ready .given in record { table = g .table; own-valid = g .q-valid; other-valid = g .p-valid; own-in = h; other-in = ready .p-in }
 
-  pub others-ready : j < length q → Ready t obs p q m i (j + 1) area out
+  pub others-ready : j < length q → Ready t obs rel p q m i (j + 1) area out
   others-ready h = record { given = ready .given; p-in = ready .p-in; q-in = omega arith; sound = ready .sound }
 
   module _ (b : Bool) (eb : b ≡ stepAt t m false q p j i) (tb : not b ≡ false) {area₁ out₁ : List ℕ} (r : Bool) (a : Answer t m p q (i + (j + 1)) (pathAt t m p q i (j + 1)) area₁ out out₁ r) where
@@ -206,7 +206,7 @@ module _ {t : Trace} {obs p q : List ℕ} {m i j : ℕ} {area out : List ℕ} (r
   pub moved-steps : i < length p → Steps t obs p q i j
   moved-steps h = let g = ready .given in record { table = g .table; own-valid = g .p-valid; other-valid = g .q-valid; own-in = h; other-in = ready .q-in }
 
-  pub moved-ready : i < length p → Ready t obs p q m (i + 1) j area out
+  pub moved-ready : i < length p → Ready t obs rel p q m (i + 1) j area out
   moved-ready h = record { given = ready .given; p-in = omega arith; q-in = ready .q-in; sound = ready .sound }
 
   module _ (b : Bool) (eb : b ≡ stepAt t m true p q i j) (tb : not b ≡ false) {area₁ out₁ : List ℕ} (r : Bool) (a : Answer t m p q (i + 1 + j) (pathAt t m p q (i + 1) j) area₁ out out₁ r) where

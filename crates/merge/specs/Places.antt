@@ -10,6 +10,7 @@ use Rattle.bits.specs.Marks.{isMarked}
 use Rattle.model.specs.Trace.{Trace}
 use Rattle.model.specs.Good.{maxEvents}
 use Rattle.model.specs.Grid.{stepAt, after, orElse, path}
+use Rattle.links.specs.Links.{Released}
 use Rattle.steps.specs.Steps.{Seen, AllValid}
 
 -- the path from a place to the end
@@ -46,9 +47,10 @@ state q i j = i * (length q + 1) + j
 unfoldable pub Sound : Trace → ℕ → List ℕ → List ℕ → List ℕ → Type 0
 Sound t m p q area = (i j : ℕ) → i ≤ length p → j ≤ length q → isMarked area (state q i j) ≡ true → pathAt t m p q i j ≡ none
 
--- the observed writes and the two lists, with a bit for each place and room for the path
-pub record Given (t : Trace) (obs p q area out : List ℕ) : Type 0 where
+-- the observed writes, the ends of sections and the two lists, with a bit for each place and room for the path
+pub record Given (t : Trace) (obs rel p q area out : List ℕ) : Type 0 where
   pub table : Seen t obs
+  pub released : Released t rel
   pub p-valid : AllValid t p
   pub q-valid : AllValid t q
   pub p-few : length p ≤ maxEvents
@@ -57,8 +59,8 @@ pub record Given (t : Trace) (obs p q area out : List ℕ) : Type 0 where
   pub room : length p + length q ≤ length out
 
 -- a place of the grid, and an area whose marks hold
-pub record Ready (t : Trace) (obs p q : List ℕ) (m i j : ℕ) (area out : List ℕ) : Type 0 where
-  pub given : Given t obs p q area out
+pub record Ready (t : Trace) (obs rel p q : List ℕ) (m i j : ℕ) (area out : List ℕ) : Type 0 where
+  pub given : Given t obs rel p q area out
   pub p-in : i ≤ length p
   pub q-in : j ≤ length q
   pub sound : Sound t m p q area

@@ -22,6 +22,7 @@ fn state_at(n: usize, i: usize, j: usize) -> usize
 fn explore(
     ev: &[u8],
     observed: &[u16],
+    released: &[u16],
     p: &[u16],
     q: &[u16],
     moved: u8,
@@ -30,7 +31,7 @@ fn explore(
     out: &mut [u16],
     area: &mut [u8],
 ) -> bool
-    requires { ⌜ Ready (trace (now ev)) (now observed) (now p) (now q) moved i j (now area) (now out) ⌝ }
+    requires { ⌜ Ready (trace (now ev)) (now observed) (now released) (now p) (now q) moved i j (now area) (now out) ⌝ }
     ensures { λ r. ⌜ Answer (trace (now (ev .entry))) moved (now (p .entry)) (now (q .entry)) (i + j) (pathAt (trace (now (ev .entry))) moved (now (p .entry)) (now (q .entry)) i j) (now (area .exit)) (now (out .entry)) (now (out .exit)) r ⌝ }
 {
     if i + j == p.len() + q.len() {
@@ -40,7 +41,7 @@ fn explore(
     if bits::marked(area, state) {
         return false;
     }
-    if try_both(ev, observed, p, q, moved, i, j, out, area) {
+    if try_both(ev, observed, released, p, q, moved, i, j, out, area) {
         return true;
     }
     bits::mark(area, state);
@@ -51,6 +52,7 @@ fn explore(
 fn try_both(
     ev: &[u8],
     observed: &[u16],
+    released: &[u16],
     p: &[u16],
     q: &[u16],
     moved: u8,
@@ -59,19 +61,20 @@ fn try_both(
     out: &mut [u16],
     area: &mut [u8],
 ) -> bool
-    requires { ⌜ Ready (trace (now ev)) (now observed) (now p) (now q) moved i j (now area) (now out) ⌝ }
+    requires { ⌜ Ready (trace (now ev)) (now observed) (now released) (now p) (now q) moved i j (now area) (now out) ⌝ }
     ensures { λ r. ⌜ Answer (trace (now (ev .entry))) moved (now (p .entry)) (now (q .entry)) (i + j) (viaEither (trace (now (ev .entry))) moved (now (p .entry)) (now (q .entry)) i j) (now (area .exit)) (now (out .entry)) (now (out .exit)) r ⌝ }
 {
-    if try_others(ev, observed, p, q, moved, i, j, out, area) {
+    if try_others(ev, observed, released, p, q, moved, i, j, out, area) {
         return true;
     }
-    try_moved(ev, observed, p, q, moved, i, j, out, area)
+    try_moved(ev, observed, released, p, q, moved, i, j, out, area)
 }
 
 // By way of the others' event. It is written to the list on the way back.
 fn try_others(
     ev: &[u8],
     observed: &[u16],
+    released: &[u16],
     p: &[u16],
     q: &[u16],
     moved: u8,
@@ -80,16 +83,16 @@ fn try_others(
     out: &mut [u16],
     area: &mut [u8],
 ) -> bool
-    requires { ⌜ Ready (trace (now ev)) (now observed) (now p) (now q) moved i j (now area) (now out) ⌝ }
+    requires { ⌜ Ready (trace (now ev)) (now observed) (now released) (now p) (now q) moved i j (now area) (now out) ⌝ }
     ensures { λ r. ⌜ Answer (trace (now (ev .entry))) moved (now (p .entry)) (now (q .entry)) (i + j) (viaOthers (trace (now (ev .entry))) moved (now (p .entry)) (now (q .entry)) i j) (now (area .exit)) (now (out .entry)) (now (out .exit)) r ⌝ }
 {
     if q.len() <= j {
         return false;
     }
-    if !steps::may_step(ev, observed, q, j, p, i, moved, false) {
+    if !steps::may_step(ev, observed, released, q, j, p, i, moved, false) {
         return false;
     }
-    if explore(ev, observed, p, q, moved, i, j + 1, out, area) {
+    if explore(ev, observed, released, p, q, moved, i, j + 1, out, area) {
         placing::place(q, j, out, i + j);
         return true;
     }
@@ -100,6 +103,7 @@ fn try_others(
 fn try_moved(
     ev: &[u8],
     observed: &[u16],
+    released: &[u16],
     p: &[u16],
     q: &[u16],
     moved: u8,
@@ -108,16 +112,16 @@ fn try_moved(
     out: &mut [u16],
     area: &mut [u8],
 ) -> bool
-    requires { ⌜ Ready (trace (now ev)) (now observed) (now p) (now q) moved i j (now area) (now out) ⌝ }
+    requires { ⌜ Ready (trace (now ev)) (now observed) (now released) (now p) (now q) moved i j (now area) (now out) ⌝ }
     ensures { λ r. ⌜ Answer (trace (now (ev .entry))) moved (now (p .entry)) (now (q .entry)) (i + j) (viaMoved (trace (now (ev .entry))) moved (now (p .entry)) (now (q .entry)) i j) (now (area .exit)) (now (out .entry)) (now (out .exit)) r ⌝ }
 {
     if p.len() <= i {
         return false;
     }
-    if !steps::may_step(ev, observed, p, i, q, j, moved, true) {
+    if !steps::may_step(ev, observed, released, p, i, q, j, moved, true) {
         return false;
     }
-    if explore(ev, observed, p, q, moved, i + 1, j, out, area) {
+    if explore(ev, observed, released, p, q, moved, i + 1, j, out, area) {
         placing::place(p, i, out, i + j);
         return true;
     }
@@ -128,16 +132,17 @@ fn try_moved(
 fn find_in(
     ev: &[u8],
     observed: &[u16],
+    released: &[u16],
     p: &[u16],
     q: &[u16],
     moved: u8,
     out: &mut [u16],
     area: &mut [u8],
 ) -> bool
-    requires { ⌜ Given (trace (now ev)) (now observed) (now p) (now q) (now area) (now out) × Clear (now area) ⌝ }
+    requires { ⌜ Given (trace (now ev)) (now observed) (now released) (now p) (now q) (now area) (now out) × Clear (now area) ⌝ }
     ensures { λ r. ⌜ Found (path (trace (now (ev .entry))) moved (now (p .entry)) (now (q .entry)) (length (now (p .entry)) + length (now (q .entry))) 0 0) (now (area .entry)) (now (area .exit)) (now (out .entry)) (now (out .exit)) r ⌝ }
 {
-    let found = explore(ev, observed, p, q, moved, 0, 0, out, area);
+    let found = explore(ev, observed, released, p, q, moved, 0, 0, out, area);
     bits::clear(area);
     found
 }
@@ -147,16 +152,17 @@ fn find_in(
 pub fn find(
     ev: &[u8],
     observed: &[u16],
+    released: &[u16],
     p: &[u16],
     q: &[u16],
     moved: u8,
     out: &mut [u16],
     area: &mut [u8],
 ) -> bool
-    requires { ⌜ Given (trace (now ev)) (now observed) (now p) (now q) (now area) (now out) × Clear (now area) ⌝ }
+    requires { ⌜ Given (trace (now ev)) (now observed) (now released) (now p) (now q) (now area) (now out) × Clear (now area) ⌝ }
     ensures { λ r. ⌜ Found (path (trace (now (ev .entry))) moved (now (p .entry)) (now (q .entry)) (length (now (p .entry)) + length (now (q .entry))) 0 0) (now (area .entry)) (now (area .exit)) (now (out .entry)) (now (out .exit)) r ⌝ }
 {
     let last = state_at(q.len(), p.len(), q.len());
     let used = last / 8 + 1;
-    find_in(ev, observed, p, q, moved, out, &mut area[..used])
+    find_in(ev, observed, released, p, q, moved, out, &mut area[..used])
 }

@@ -6,11 +6,11 @@ use mathlib.Core.Logic.{inl, inr, ⊎-elim}
 use mathlib.Core.Bool.{Bool, cond, _&&_}
 use mathlib.Core.List.{List, [], _∷_, _++_, reverse, reverse-reverse, List·Memᴰ·head, List·Memᴰ·tail}
 use lib.ListN.{length, length-append, List·getD-append}
-use lib.Dec.{eqb}
+use lib.Dec.{eqb, leb}
 use Rattle.model.specs.Trace.{Trace, Event, Valid, write, acquire, release, noEvent, at, threadOf, kindOf, objectOf, does}
 use Rattle.model.specs.Lists.{_∈_, before, put, only, is}
 use Rattle.model.specs.Observed.{lastWrite, observed}
-use Rattle.model.specs.Good.{holder, Free}
+use Rattle.model.specs.Good.{depth, holder, Free}
 use Rattle.model.specs.Reordering.{Enabled, EnabledAfter, Step, Correct}
 use Rattle.model.specs.Race.{Conflicting}
 use Rattle.model.specs.Extension.{Extension}
@@ -52,13 +52,21 @@ module _ (u v : Trace) (n : ℕ) (same : Agree u v n) where
   lastWrite-agree x (k ∷ h) w =
       let ih = lastWrite-agree x h (λ j m. w j (List·Memᴰ·tail m)) in rw (does-agree write x k (w k (List·Memᴰ·head refl)), ih)
 
+  depth-agree : (x : ℕ) (h : List ℕ) → Within n h → depth u x h ≡ depth v x h
+  depth-agree x [] w = refl
+  depth-agree x (k ∷ h) w =
+      let p = w k (List·Memᴰ·head refl) in
+      let ih = depth-agree x h (λ j m. w j (List·Memᴰ·tail m)) in
+      rw (does-agree acquire x k p, does-agree release x k p, ih)
+
   holder-agree : (x : ℕ) (h : List ℕ) → Within n h → holder u x h ≡ holder v x h
   holder-agree x [] w = refl
   holder-agree x (k ∷ h) w =
       let p = w k (List·Memᴰ·head refl) in
-      let ih = holder-agree x h (λ j m. w j (List·Memᴰ·tail m)) in
-      rw (does-agree acquire x k p, does-agree release x k p)
-      (ap₂ (λ (e : Event) (o : ℕ). cond (does v acquire x k) (suc (e .thread)) (cond (does v release x k) 0 o)) (same k p) ih)
+      let w′ : Within n h = λ j m. w j (List·Memᴰ·tail m) in
+      let ih = holder-agree x h w′ in
+      rw (does-agree acquire x k p, does-agree release x k p, depth-agree x h w′)
+      (ap₂ (λ (e : Event) (o : ℕ). cond (does v acquire x k) (suc (e .thread)) (cond (does v release x k && leb (depth v x h) 1) 0 o)) (same k p) ih)
 
   pub observed-agree : (k : ℕ) → k ≤ n → observed u k ≡ observed v k
   unfolding observed
@@ -74,7 +82,9 @@ module _ (u v : Trace) (n : ℕ) (same : Agree u v n) where
   }
 
   free-agree : (h : List ℕ) (k : ℕ) → Within n h → k ≤ n → Free u h k → Free v h k
-  free-agree h k w p f = sym (holder-agree (objectOf v k) h w) ∙ ap (λ (x : ℕ). holder u x h) (sym (same-object k p)) ∙ f
+  free-agree h k w p f =
+      let e : holder u (objectOf u k) h ≡ holder v (objectOf v k) h = ap (λ (x : ℕ). holder u x h) (same-object k p) ∙ holder-agree (objectOf v k) h w in
+      ⊎-elim (λ z. inl (sym e ∙ z)) (λ z. inr (sym e ∙ z ∙ ap suc (same-thread k p))) f
 
   step-agree : (h : List ℕ) (k : ℕ) → Within n h → k ≤ n → Valid v k → Step u h k → Step v h k
   step-agree h k w p q st = record {

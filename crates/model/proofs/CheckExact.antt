@@ -12,8 +12,8 @@ use Rattle.model.specs.Trace.{Trace, Valid, read, acquire, threadOf, kin
 use Rattle.model.specs.Lists.{own, before}
 use Rattle.model.specs.Good.{Free}
 use Rattle.model.specs.Reordering.{Enabled, Sees, Step, CorrectFrom, EnabledAfter, BringsBoth}
-use Rattle.model.specs.Check.{PlaceFault, no-event, not-next, sees-otherwise, lock-held, CheckAnswer, accepted, first-fault, lower-not-enabled, higher-not-enabled, sameList, isValid, isNext, isSeen, isFree, placeFault, firstOf, faultFrom, isEnabled, check}
-use Rattle.model.proofs.Tests.{by-cases, both, true-both, not-both, both-not, false-test, test-false}
+use Rattle.model.specs.Check.{PlaceFault, no-event, not-next, sees-otherwise, lock-held, CheckAnswer, accepted, first-fault, lower-not-enabled, higher-not-enabled, sameList, isValid, isNext, isSeen, isOpen, isFree, placeFault, firstOf, faultFrom, isEnabled, check}
+use Rattle.model.proofs.Tests.{by-cases, both, true-both, either-true, true-either, not-both, both-not, false-test, test-false}
 
 first-nonzero : (f g : ℕ) → f ≢ 0 → firstOf f g ≡ f
 first-nonzero zero g ne = absurd (ne refl)
@@ -33,6 +33,12 @@ same-refl : (l : List ℕ) → sameList l l ≡ true
 unfolding sameList
 same-refl [] = refl
 same-refl (x ∷ l) = true-both (eq-eqb x x refl) (same-refl l)
+
+pub open-true : (c o : ℕ) → isOpen c o ≡ true → (o ≡ 0) ⊎ (o ≡ suc c)
+open-true c o e = ⊎-elim (λ p. inl (eqb-true _ _ p)) (λ p. inr (eqb-true _ _ p)) (either-true (eqb o 0) (eqb o (suc c)) e)
+
+pub true-open : (c o : ℕ) → (o ≡ 0) ⊎ (o ≡ suc c) → isOpen c o ≡ true
+true-open c o s = true-either (eqb o 0) (eqb o (suc c)) (⊎-elim (λ p. inl (eq-eqb _ _ p)) (λ p. inr (eq-eqb _ _ p)) s)
 
 module _ (t : Trace) where
   pub valid-true : (k : ℕ) → isValid t k ≡ true → Valid t k
@@ -62,11 +68,11 @@ module _ (t : Trace) where
 
     pub free-true : isFree t h k ≡ true → Free t h k
     unfolding isFree
-    free-true e = eqb-true _ _ e
+    free-true e = open-true (threadOf t k) _ e
 
     pub true-free : Free t h k → isFree t h k ≡ true
     unfolding isFree
-    true-free e = eq-eqb _ _ e
+    true-free e = true-open (threadOf t k) _ e
 
     -- ---- one place
 

@@ -9,6 +9,7 @@ use lib.ListN.{length}
 use Rattle.model.specs.Trace.{does}
 use Rattle.model.specs.Lists.{listed, is, but, threads}
 use Rattle.model.specs.Observed.{observed}
+use Rattle.model.specs.Sections.{ownDepth, isOutermost, isLast}
 use Rattle.model.specs.Cone.{givesBack, matching}
 use Rattle.model.specs.Check.{sameList, isValid, isNext, isSeen, isFree, placeFault, faultFrom, isEnabled, check}
 use Rattle.model.specs.Refusals.{eventRefusal, refusalIn, refusal, isGood}
@@ -32,7 +33,7 @@ computed e =
 
 -- the one test
 pub examples-hold : map computed examples ≡ map some examples
-unfolding does listed is but threads observed givesBack matching sameList isValid isNext isSeen isFree placeFault faultFrom isEnabled check
+unfolding does listed is but threads observed ownDepth isOutermost isLast givesBack matching sameList isValid isNext isSeen isFree placeFault faultFrom isEnabled check
     eventRefusal refusalIn refusal isGood
     brought rounds isEarlier isRooted isObserved isExempt isClosing brings cone sawOther sawNone readStep writeStep lockStep mayStep stepAt path
     shownFor isAccess isConflicting raceOn races

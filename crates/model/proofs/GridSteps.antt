@@ -10,15 +10,16 @@ use borrow.Author.Tests.{eqb-true, eqb-false, eq-eqb, ne-eqb, not-true}
 use Rattle.model.specs.Trace.{Trace, read, write, acquire, threadOf, kindOf, objectOf, does}
 use Rattle.model.specs.Lists.{_∈_, listed, only, is}
 use Rattle.model.specs.Observed.{lastWrite, observed}
-use Rattle.model.specs.Good.{Free, WellFormed}
+use Rattle.model.specs.Good.{holder, Free, WellFormed}
 use Rattle.model.specs.Reordering.{Enabled, Sees, Step, Correct, CorrectFrom}
-use Rattle.model.specs.Check.{isFree}
-use Rattle.model.specs.Grid.{side, sawOther, sawNone, pendingPass, readStep, writeStep, lockStep, mayStep}
+use Rattle.model.specs.Check.{isOpen}
+use Rattle.model.specs.Grid.{side, sawOther, sawNone, pendingPass, readStep, writeStep, keeper, lockStep, mayStep}
 use Rattle.model.proofs.Tests.{by-cases, in-cons, clash, both, true-both, is-true, is-false, but-true, true-but, false-but, false-is, does-true, true-does, false-does}
 use Rattle.model.proofs.Lists.{mem-only, mem-listed, listed-mem}
 use Rattle.model.proofs.Histories.{Legal, enabled-out, lastWrite-mem, lastWrite-kept}
-use Rattle.model.proofs.Locks.{locked, free-only, free-parts}
-use Rattle.model.proofs.CheckExact.{seen-true, true-seen, free-true, true-free}
+use Rattle.model.proofs.Locks.{locked, free-only, locked-only, free-parts}
+use Rattle.model.proofs.SectionsExact.{in-turn, in-turn-only, keeper-holder}
+use Rattle.model.proofs.CheckExact.{open-true, true-open, seen-true, true-seen}
 
 -- ---- the two lists
 
@@ -126,6 +127,15 @@ read-sees t x j k h s e r =
     let d = does-true t read x k (rw e at r) in
     ap (λ (y : ℕ). lastWrite t y h) (sym (d .1)) ∙ s .sees (d .0) ∙ ap (observed t) (sym e)
 
+-- ---- whether an acquire may come in one of the lists is told by the latest event on its lock there
+
+open-part : (t : Trace) → WellFormed t → (h : List ℕ) → Legal t h → (s : ℕ → Bool) (k : ℕ)
+    → (isOpen (threadOf t k) (keeper t (objectOf t k) (only t s h)) ≡ true) ↔ Free t (only t s h) k
+open-part t w h l s k =
+    let o = holder t (objectOf t k) (only t s h) in
+    let e : keeper t (objectOf t k) (only t s h) ≡ o = keeper-holder t (objectOf t k) (only t s h) (locked-only t s h (locked t w h l)) (in-turn-only t s h (in-turn t h l)) in
+    ((λ p. open-true (threadOf t k) o (rw e at p)), (λ f. rw e (true-open (threadOf t k) o f)))
+
 -- ---- a correct path passes
 
 module _ (t : Trace) (m : ℕ) where
@@ -192,7 +202,7 @@ module _ (t : Trace) (m : ℕ) where
     lock-passes r =
         let d = locked t w h l in
         let f = c .0 .free r in
-        true-both (true-free t _ k (free-only t (side m b) h d k f)) (true-free t _ k (free-only t (side m (not b)) h d k f))
+        true-both (open-part t w h l (side m b) k .1 (free-only t (side m b) h d k f)) (open-part t w h l (side m (not b)) k .1 (free-only t (side m (not b)) h d k f))
 
   correct-passes : WellFormed t → (h τ : List ℕ) → Legal t h → CorrectFrom t h τ → Walk t m h τ
   unfolding stepIn
@@ -272,12 +282,12 @@ module _ (t : Trace) (m : ℕ) where
         sym (may-write t m b hs ho rs ro k (d .0)) ∙ e in
         both (pendingPass t x (λ j. sawOther t m (not b) j) ro) (pendingPass t x (λ j. sawNone t ho j) rs) (rw (d .1) at q)
 
-    lock-passed : kindOf t k ≡ acquire → Free t hs k × Free t ho k
+    lock-passed : WellFormed t → Legal t h → kindOf t k ≡ acquire → Free t hs k × Free t ho k
     unfolding lockStep
-    lock-passed r =
+    lock-passed w l r =
         let q : lockStep t hs ho k ≡ true = sym (may-acquire t m b hs ho rs ro k r) ∙ e in
-        let z = both (isFree t hs k) (isFree t ho k) q in
-        (free-true t hs k (z .0), free-true t ho k (z .1))
+        let z = both (isOpen (threadOf t k) (keeper t (objectOf t k) hs)) (isOpen (threadOf t k) (keeper t (objectOf t k) ho)) q in
+        (open-part t w h l (side m b) k .0 (z .0), open-part t w h l (side m (not b)) k .0 (z .1))
 
     ahead-own : (x : ℕ) → does t write x k ≡ true → Ahead (k ∷ h) τ x b
     unfolding sawNone
@@ -312,7 +322,7 @@ module _ (t : Trace) (m : ℕ) where
           let soon : Pending t x k (only t (side m b) (k ∷ τ)) = rw s (nw, inl refl) in
           let a = i x b k soon (true-does t read x k r refl) in
           by-cases (sawOther t m b k) (λ p. a .1 p (read-passed r p)) (λ p. a .0 p ∙ f .1 r b s p);
-      free = λ r. let z = lock-passed r in free-parts t (side m b) (side m (not b)) (side-flip m b) h (locked t w h l) k (z .0) (z .1);
+      free = λ r. let z = lock-passed w l r in free-parts t (side m b) (side m (not b)) (side-flip m b) h (locked t w h l) k (z .0) (z .1);
     }
 
   passes-correct : WellFormed t → (h τ : List ℕ) → Legal t h → ((x : ℕ) (c : Bool) → Ahead h τ x c) → Fit h τ → Walk t m h τ → CorrectFrom t h τ

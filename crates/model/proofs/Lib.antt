@@ -3,6 +3,7 @@ pub mod Tests
 pub mod Lists
 pub mod Histories
 pub mod Locks
+pub mod SectionsExact
 pub mod Agree
 -- the observed write, in words
 pub mod ObservedExact
@@ -21,6 +22,7 @@ pub mod CheckExact
 -- 6
 pub mod LeastSet
 pub mod ConeExact
+pub mod MatchingExact
 pub mod GridSteps
 pub mod Merges
 pub mod SearchExact

@@ -1,5 +1,5 @@
 -- Lists of event numbers: those that pass a test, the trace's own, a list read backwards, and lists in order.
-use Prim.Native.Nat.{ℕ, zero, suc, _≤_, _<_}
+use Prim.Native.Nat.{ℕ, zero, suc, _+_, _≤_, _<_}
 use native.Mathlib.Omega.{arith}
 use mathlib.Core.Path.{_≡_, refl, sym, _∙_, ap}
 use mathlib.Core.Logic.{_≢_, _⊎_, inl, inr, ⊎-elim}
@@ -191,6 +191,20 @@ mem-numbers t k m = let y = mem-upTo (length t) k (mem-reverse k (upTo (length t
 
 pub numbers-mem : (t : Trace) (k : ℕ) → Valid t k → k ∈ numbers t
 numbers-mem t k v = reverse-mem (upTo-mem (length t) k (v .positive) (v .bounded))
+
+-- the d numbers after k
+abbrev pub after : ℕ → ℕ → List ℕ
+after k zero = []
+after k (suc d) = suc k ∷ after (suc k) d
+
+pub numbers-split : (t : Trace) (d k : ℕ) → k + d ≡ length t → numbers t ≡ reverseAux (upTo k) (after k d)
+numbers-split t zero k e = let z : length t ≡ k = omega arith in rw z
+numbers-split t (suc d) k e = numbers-split t d (suc k) (omega arith)
+
+-- where none up to k passes the test, those after k decide
+pub nearest-skip : (p : ℕ → Bool) (k : ℕ) (r : List ℕ) → ((j : ℕ) → j ≤ k → p j ≡ false) → nearest p (reverseAux (upTo k) r) ≡ nearest p r
+nearest-skip p zero r f = refl
+nearest-skip p (suc k) r f = nearest-skip p k (suc k ∷ r) (λ j l. f j (omega arith)) ∙ rw (f (suc k) (omega arith))
 
 -- ---- lists in order
 

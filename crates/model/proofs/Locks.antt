@@ -1,16 +1,18 @@
 -- Locks in a correct reordering, and what is left of it when only some threads' events are kept.
-use Prim.Native.Nat.{ℕ, zero, suc, _≤_}
+use Prim.Native.Nat.{ℕ, zero, suc, _-_, _≤_, _<_, zero-le}
 use native.Mathlib.Omega.{arith}
 use mathlib.Core.Path.{_≡_, refl, sym, _∙_, ap}
-use mathlib.Core.Logic.{_⊎_}
+use mathlib.Core.Logic.{_⊎_, inl, inr, ⊎-elim, _↔_}
 use mathlib.Core.Bool.{Bool, true, false, cond}
 use mathlib.Core.List.{List, [], _∷_, List·Memᴰ·head, List·Memᴰ·tail}
 use lib.ListN.{length}
+use lib.Dec.{leb}
+use borrow.Author.Tests.{leb-true, leb-false}
 use Rattle.model.specs.Trace.{Trace, Valid, read, acquire, release, threadOf, kindOf, objectOf, does}
 use Rattle.model.specs.Lists.{_∈_, upTo, before, only, is}
 use Rattle.model.specs.Observed.{observed}
-use Rattle.model.specs.Good.{holder, Free, Held, WellFormed}
-use Rattle.model.specs.Reordering.{Sees}
+use Rattle.model.specs.Good.{depth, holder, Free, Held, WellFormed}
+use Rattle.model.specs.Reordering.{Enabled, Sees}
 use Rattle.model.proofs.Tests.{by-cases, does-true, true-is}
 use Rattle.model.proofs.Lists.{own-only}
 use Rattle.model.proofs.Histories.{Legal, lastWrite-kept}
@@ -20,51 +22,132 @@ unfoldable pub Locked : Trace → List ℕ → Type 0
 Locked t [] = Unit {0}
 Locked t (k ∷ h) = (kindOf t k ≡ acquire → Free t h k) × (kindOf t k ≡ release → Held t h k) × Locked t h
 
+module _ (t : Trace) (x : ℕ) where
+  -- an acquire's lock is open to its thread, a release's is held by it
+  acquire-open : (k : ℕ) (h : List ℕ) → Locked t (k ∷ h) → does t acquire x k ≡ true → (holder t x h ≡ 0) ⊎ (holder t x h ≡ suc (threadOf t k))
+  unfolding Locked
+  acquire-open k h l p = let d = does-true t acquire x k p in rw (d .1) at (l .0 (d .0))
+
+  release-held : (k : ℕ) (h : List ℕ) → Locked t (k ∷ h) → does t release x k ≡ true → holder t x h ≡ suc (threadOf t k)
+  unfolding Locked
+  release-held k h l q = let d = does-true t release x k q in rw (d .1) at (l .1 (d .0))
+
+  rest-locked : (k : ℕ) (h : List ℕ) → Locked t (k ∷ h) → Locked t h
+  unfolding Locked
+  rest-locked k h l = l .2
+
+  -- nobody holds a lock exactly at depth 0
+  pub nobody : (h : List ℕ) → Locked t h → (holder t x h ≡ 0) ↔ (depth t x h ≡ 0)
+  nobody [] l = ((λ e. refl), (λ e. refl))
+  nobody (k ∷ h) l =
+      let ih = nobody h (rest-locked k h l) in
+      by-cases (does t acquire x k) (λ p. rw p ((λ e. absurd (omega arith)), (λ e. absurd (omega arith)))) (λ p.
+      by-cases (does t release x k)
+      (λ q.
+      let g = release-held k h l q in
+      by-cases (leb (depth t x h) 1)
+      (λ z. let y : depth t x h ≤ 1 = leb-true _ _ z in rw (p, q, z) ((λ e. omega arith), (λ e. refl)))
+      (λ z. let y : 1 < depth t x h = leb-false _ _ z in rw (p, q, z) ((λ e. absurd (omega arith)), (λ e. absurd (omega arith)))))
+      (λ q. rw (p, q) ih))
+
+-- a lock is held no deeper than events stand before
+depth-upTo : (t : Trace) (x k : ℕ) → depth t x (upTo k) ≤ k
+depth-upTo t x zero = zero-le
+depth-upTo t x (suc k) =
+    let ih = depth-upTo t x k in
+    by-cases (does t acquire x (suc k)) (λ p. rw p (omega arith)) (λ p. by-cases (does t release x (suc k)) (λ q. rw (p, q) (omega arith)) (λ q. rw (p, q) (omega arith)))
+
+pub depth-before : (t : Trace) (x k : ℕ) → depth t x (before k) ≤ k
+depth-before t x zero = zero-le
+depth-before t x (suc k) = let z = depth-upTo t x k in omega arith
+
 -- ---- only some threads' events
 
--- who still holds a lock
+-- who still holds a lock, and how deep
 abbrev through : (ℕ → Bool) → ℕ → ℕ
 through s zero = 0
 through s (suc c) = cond (s c) (suc c) 0
+
+abbrev pub sharing : (ℕ → Bool) → ℕ → ℕ → ℕ
+sharing s zero d = 0
+sharing s (suc c) d = cond (s c) d 0
 
 through-suc : (s : ℕ → Bool) (n c : ℕ) → through s n ≡ suc c → n ≡ suc c
 through-suc s zero c e = absurd (omega arith)
 through-suc s (suc d) c e = by-cases (s d) (λ p. rw p at e) (λ p. let z = rw p at e in absurd (omega arith))
 
 module _ (t : Trace) (s : ℕ → Bool) where
-  holder-only : (h : List ℕ) → Locked t h → (x : ℕ) → holder t x (only t s h) ≡ through s (holder t x h)
-  unfolding Locked
-  holder-only [] l x = refl
-  holder-only (k ∷ h) l x =
-      let ih = holder-only h (l .2) x in
+  -- a lock that is nobody's or a thread's which is left out is nobody's
+  gone : (n c : ℕ) → (n ≡ 0) ⊎ (n ≡ suc c) → s c ≡ false → (d : ℕ) → (through s n ≡ 0) × (sharing s n d ≡ 0)
+  gone n c (inl z) e d = rw z (refl, refl)
+  gone n c (inr z) e d = rw (z, e) (refl, refl)
+
+  pub lock-only : (x : ℕ) (h : List ℕ) → Locked t h
+      → (holder t x (only t s h) ≡ through s (holder t x h)) × (depth t x (only t s h) ≡ sharing s (holder t x h) (depth t x h))
+  lock-only x [] l = (refl, refl)
+  lock-only x (k ∷ h) l =
+      let c = threadOf t k in
+      let ih = lock-only x h (rest-locked t x k h l) in
       by-cases (does t acquire x k)
       (λ p.
-      let d = does-true t acquire x k p in
-      let f : holder t x h ≡ 0 = rw (d .1) at (l .0 (d .0)) in
-      by-cases (s (threadOf t k)) (λ e. rw (e, p, e)) (λ e. rw (e, p, e) (rw f at ih)))
+      let f = acquire-open t x k h l p in
+      by-cases (s c)
+      (λ e. rw (e, p, e) (refl, ap suc (ih .1 ∙ deeper f e)))
+      (λ e. let g = gone (holder t x h) c f e (depth t x h) in rw (e, p, e) (ih .0 ∙ g .0, ih .1 ∙ g .1)))
       (λ p.
       by-cases (does t release x k)
       (λ q.
-      let d = does-true t release x k q in
-      let g : holder t x h ≡ suc (threadOf t k) = rw (d .1) at (l .1 (d .0)) in
-      by-cases (s (threadOf t k)) (λ e. rw (e, p, q)) (λ e. rw (e, p, q) (rw (g, e) at ih)))
-      (λ q. by-cases (s (threadOf t k)) (λ e. rw (e, p, q) ih) (λ e. rw (e, p, q) ih)))
+      let g = release-held t x k h l q in
+      by-cases (s c)
+      (λ e.
+      let i : holder t x (only t s h) ≡ holder t x h = ih .0 ∙ rw (g, e) in
+      let j : depth t x (only t s h) ≡ depth t x h = ih .1 ∙ rw (g, e) in
+      by-cases (leb (depth t x h) 1)
+      (λ z. let y : depth t x h ≤ 1 = leb-true _ _ z in rw (e, p, q, j, z) (refl, omega arith))
+      (λ z. rw (e, p, q, j, z, i, g, e) (refl, refl)))
+      (λ e.
+      let y = gone (holder t x h) c (inr g) e (depth t x h) in
+      by-cases (leb (depth t x h) 1)
+      (λ z. rw (e, p, q, z) (ih .0 ∙ y .0, ih .1 ∙ y .1))
+      (λ z. rw (e, p, q, z) (ih .0, ih .1 ∙ y .1 ∙ sym (gone (holder t x h) c (inr g) e (depth t x h - 1) .1)))))
+      (λ q. by-cases (s c) (λ e. rw (e, p, q) ih) (λ e. rw (e, p, q) ih)))
+    where
+      deeper : (holder t x h ≡ 0) ⊎ (holder t x h ≡ suc (threadOf t k)) → s (threadOf t k) ≡ true → sharing s (holder t x h) (depth t x h) ≡ depth t x h
+      deeper (inl z) e = let d = nobody t x h (rest-locked t x k h l) .0 z in rw (z, d) refl
+      deeper (inr z) e = rw (z, e) refl
 
   -- an acquire that may come still may
   pub free-only : (h : List ℕ) → Locked t h → (k : ℕ) → Free t h k → Free t (only t s h) k
-  free-only h l k f = holder-only h l (objectOf t k) ∙ ap (through s) f
+  free-only h l k (inl z) = inl (lock-only (objectOf t k) h l .0 ∙ ap (through s) z)
+  free-only h l k (inr z) =
+      let e = lock-only (objectOf t k) h l .0 ∙ ap (through s) z in by-cases (s (threadOf t k)) (λ y. inr (e ∙ rw y)) (λ y. inl (e ∙ rw y))
+
+  pub locked-only : (h : List ℕ) → Locked t h → Locked t (only t s h)
+  unfolding Locked
+  locked-only [] l = tt
+  locked-only (k ∷ h) l =
+      by-cases (s (threadOf t k))
+      (λ e. rw e (
+        (λ a. free-only h (l .2) k (l .0 a)),
+        (λ r. lock-only (objectOf t k) h (l .2) .0 ∙ ap (through s) (l .1 r) ∙ rw e),
+        locked-only h (l .2),
+      ))
+      (λ e. rw e (locked-only h (l .2)))
 
 -- an acquire may come where it may in both parts of the events
 pub free-parts : (t : Trace) (s r : ℕ → Bool) → ((c : ℕ) → s c ≡ false → r c ≡ true) → (h : List ℕ) → Locked t h → (k : ℕ)
     → Free t (only t s h) k → Free t (only t r h) k → Free t h k
 free-parts t s r f h l k p q = go (holder t (objectOf t k) h) refl
   where
+    -- the holder is of one of the parts
+    part : (v : ℕ → Bool) (c : ℕ) → v c ≡ true → holder t (objectOf t k) h ≡ suc c → Free t (only t v h) k → Free t h k
+    part v c y e o =
+        let z : holder t (objectOf t k) (only t v h) ≡ suc c = lock-only t v (objectOf t k) h l .0 ∙ ap (through v) e ∙ rw y in
+        ⊎-elim (λ u. absurd (omega arith)) (λ u. inr (e ∙ sym z ∙ u)) o
+
     go : (n : ℕ) → holder t (objectOf t k) h ≡ n → Free t h k
-    go zero e = e
-    go (suc c) e =
-        by-cases (s c)
-        (λ y. let z : holder t (objectOf t k) (only t s h) ≡ suc c = holder-only t s h l (objectOf t k) ∙ ap (through s) e ∙ rw y in absurd (omega arith))
-        (λ y. let z : holder t (objectOf t k) (only t r h) ≡ suc c = holder-only t r h l (objectOf t k) ∙ ap (through r) e ∙ rw (f c y) in absurd (omega arith))
+    go zero e = inl e
+    go (suc c) e = by-cases (s c) (λ y. part s c y e p) (λ y. part r c (f c y) e q)
 
 -- ---- in a correct reordering of a well-formed trace every release is by the holder
 
@@ -76,27 +159,24 @@ module _ (t : Trace) (w : WellFormed t) where
       let v : Valid t (suc m) = record { positive = omega arith; bounded = p } in
       (w .taken-free (suc m) v, w .given-back (suc m) v, locked-upTo m (omega arith))
 
-  locked-before : (k : ℕ) → k ≤ length t → Locked t (before k)
+  pub locked-before : (k : ℕ) → k ≤ length t → Locked t (before k)
   unfolding Locked
   locked-before zero p = tt
   locked-before (suc m) p = locked-upTo m (omega arith)
 
   -- whether a thread holds a lock is told by its own events
+  pub held-next : (h : List ℕ) → Locked t h → (k : ℕ) → Enabled t h k → kindOf t k ≡ release → Held t h k
+  held-next h l k en r =
+      let c = threadOf t k in
+      let x = objectOf t k in
+      let held : through (is c) (holder t x (before k)) ≡ suc c = ap (through (is c)) (w .given-back k (en .valid) r) ∙ rw (true-is c c refl) in
+      through-suc (is c) (holder t x h) c
+      (sym (lock-only t (is c) x h l .0) ∙ ap (holder t x) (en .next) ∙ lock-only t (is c) x (before k) (locked-before k (en .valid .bounded)) .0 ∙ held)
+
   pub locked : (h : List ℕ) → Legal t h → Locked t h
   unfolding Locked
   locked [] l = tt
-  locked (k ∷ h) l =
-      let ih = locked h (l .1) in
-      let en = l .0 .enabled in
-      let c = threadOf t k in
-      let x = objectOf t k in (
-        l .0 .free,
-        (λ q.
-            let held : through (is c) (holder t x (before k)) ≡ suc c = ap (through (is c)) (w .given-back k (en .valid) q) ∙ rw (true-is c c refl) in
-            through-suc (is c) (holder t x h) c
-            (sym (holder-only t (is c) h ih x) ∙ ap (holder t x) (en .next) ∙ holder-only t (is c) (before k) (locked-before k (en .valid .bounded)) x ∙ held)),
-        ih,
-      )
+  locked (k ∷ h) l = let ih = locked h (l .1) in (l .0 .free, held-next h ih k (l .0 .enabled), ih)
 
 -- what is left when only the events of a set of threads are kept that wrote all they read
 module _ (t : Trace) (s : ℕ → Bool) where

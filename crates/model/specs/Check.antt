@@ -1,7 +1,7 @@
 -- The check of a proposed list for (a, b) (question 5): yes, or the number of its first fault.
 use Prim.Native.Nat.{ℕ, zero, suc}
 use mathlib.Core.Path.{_≡_}
-use mathlib.Core.Bool.{Bool, true, false, cond, _&&_, not}
+use mathlib.Core.Bool.{Bool, true, false, cond, _&&_, _||_, not}
 use mathlib.Core.List.{List, [], _∷_, reverse}
 use lib.ListN.{length}
 use lib.Dec.{eqb, leb}
@@ -45,8 +45,12 @@ isNext t h k = sameList (own t (threadOf t k) h) (own t (threadOf t k) (before k
 unfoldable pub isSeen : Trace → List ℕ → ℕ → Bool
 isSeen t h k = eqb (lastWrite t (objectOf t k) h) (observed t k)
 
+-- thread c may acquire a lock with this holder: nobody, or c itself
+abbrev pub isOpen : ℕ → ℕ → Bool
+isOpen c o = eqb o 0 || eqb o (suc c)
+
 unfoldable pub isFree : Trace → List ℕ → ℕ → Bool
-isFree t h k = eqb (holder t (objectOf t k) h) 0
+isFree t h k = isOpen (threadOf t k) (holder t (objectOf t k) h)
 
 -- the fault at one place, 0 for none: each test is asked only where those before it pass
 unfoldable pub placeFault : Trace → List ℕ → ℕ → ℕ

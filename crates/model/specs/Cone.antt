@@ -2,12 +2,13 @@
 use Prim.Native.Nat.{ℕ, _≤_, _<_}
 use mathlib.Core.Path.{_≡_}
 use mathlib.Core.Logic.{_≢_}
-use mathlib.Core.Bool.{Bool, _&&_}
+use mathlib.Core.Bool.{Bool, cond, _&&_}
 use mathlib.Core.List.{List}
 use lib.Dec.{eqb, ltb}
-use Rattle.model.specs.Trace.{Trace, read, acquire, release, threadOf, kindOf, objectOf, does}
+use Rattle.model.specs.Trace.{Trace, read, acquire, threadOf, kindOf, objectOf}
 use Rattle.model.specs.Lists.{_∈_, nearest, numbers}
 use Rattle.model.specs.Observed.{observed}
+use Rattle.model.specs.Sections.{isOutermost, isLast}
 
 -- j is an earlier event of k's thread
 pub record Earlier (t : Trace) (j k : ℕ) : Type 0 where
@@ -15,12 +16,12 @@ pub record Earlier (t : Trace) (j k : ℕ) : Type 0 where
   pub less : j < k
   pub thread : threadOf t j ≡ threadOf t k
 
--- matching release of the acquire k: the first release of its lock by its thread after it; 0 where there is none
+-- matching release of the outermost acquire k: the next last release of its lock by its thread; 0 where there is none, and for every other event
 unfoldable pub givesBack : Trace → ℕ → ℕ → Bool
-givesBack t k j = ltb k j && (does t release (objectOf t k) j && eqb (threadOf t j) (threadOf t k))
+givesBack t k j = ltb k j && (isLast t j && (eqb (objectOf t j) (objectOf t k) && eqb (threadOf t j) (threadOf t k)))
 
 unfoldable pub matching : Trace → ℕ → ℕ
-matching t k = nearest (λ j. givesBack t k j) (numbers t)
+matching t k = cond (isOutermost t k) (nearest (λ j. givesBack t k j) (numbers t)) 0
 
 -- k is by a thread that is none of the roots'
 abbrev pub Outside : Trace → List ℕ → ℕ → Type 0
@@ -34,5 +35,5 @@ pub data InCone (t : Trace) (R : List ℕ) : ℕ → Type 0 where
   earlier : {j k : ℕ} → InCone t R k → Earlier t j k → InCone t R j
   -- (iii) with a read its observed write
   observes : {k w : ℕ} → InCone t R k → kindOf t k ≡ read → observed t k ≡ w → w ≢ 0 → InCone t R w
-  -- (iv) with an acquire by a thread other than the roots' its matching release, if there is one
+  -- (iv) with an outermost acquire by a thread other than the roots' its matching release, if there is one
   closes : {k r : ℕ} → InCone t R k → kindOf t k ≡ acquire → Outside t R k → matching t k ≡ r → r ≢ 0 → InCone t R r

@@ -1,4 +1,4 @@
--- The paper's worked examples P to X, with what its rules say of them.
+-- The paper's worked examples P to X, and Y and Z for re-entrant locks, with what its rules say of them.
 use Prim.Native.Nat.{ℕ}
 use mathlib.Core.Path.{_≡_}
 use mathlib.Core.List.{List, [], _∷_, List·Memᴰ}
@@ -108,5 +108,19 @@ examples =
       threadCount = 3;
       races = race 2 3 (1 ∷ []) ∷ [];
       proposals = [];
+    }
+    -- Y: inner releases do not count. (1, 10) is not reported, since rule (iv) brings in 7, so 6, so 1; nor is (6, 10), since after 5 thread 2 holds l still.
+    ∷ record {
+      trace = w 0 0 ∷ acq 2 0 ∷ acq 2 0 ∷ w 2 1 ∷ rel 2 0 ∷ r 2 0 ∷ rel 2 0 ∷ r 1 1 ∷ acq 1 0 ∷ w 1 0 ∷ [];
+      threadCount = 3;
+      races = race 1 6 (2 ∷ 3 ∷ 4 ∷ 5 ∷ []) ∷ race 4 8 (2 ∷ 3 ∷ []) ∷ [];
+      proposals = proposal 6 10 (2 ∷ 3 ∷ 4 ∷ 5 ∷ 8 ∷ 9 ∷ []) 24 ∷ [];
+    }
+    -- Z: S with l taken twice by thread 1, and so two deep at its reads
+    ∷ record {
+      trace = w 0 1 ∷ acq 0 0 ∷ w 0 0 ∷ rel 0 0 ∷ acq 1 0 ∷ acq 1 0 ∷ r 1 1 ∷ r 1 0 ∷ rel 1 0 ∷ rel 1 0 ∷ [];
+      threadCount = 2;
+      races = race 1 7 (5 ∷ 6 ∷ []) ∷ [];
+      proposals = proposal 1 7 (5 ∷ 6 ∷ []) 0 ∷ [];
     }
     ∷ []

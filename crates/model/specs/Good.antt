@@ -1,25 +1,34 @@
 -- Lock state, well-formed and good traces, and the limits.
-use Prim.Native.Nat.{ℕ, suc, _≤_}
+use Prim.Native.Nat.{ℕ, suc, _-_, _≤_}
 use mathlib.Core.Path.{_≡_}
-use mathlib.Core.Bool.{cond}
+use mathlib.Core.Logic.{_⊎_}
+use mathlib.Core.Bool.{cond, _&&_}
 use mathlib.Core.List.{List, [], _∷_}
 use lib.ListN.{length}
+use lib.Dec.{leb}
 use Rattle.model.specs.Trace.{Trace, Valid, read, acquire, release, threadOf, kindOf, objectOf, does}
 use Rattle.model.specs.Lists.{before}
 
--- who holds lock x after a history: 0 for nobody, suc c for thread c
+-- ---- locks: who holds one, and how deep. An acquire by the holder deepens the hold, a release undoes one level.
+
+-- how deep lock x is held after a history
+abbrev pub depth : Trace → ℕ → List ℕ → ℕ
+depth t x [] = 0
+depth t x (k ∷ h) = cond (does t acquire x k) (suc (depth t x h)) (cond (does t release x k) (depth t x h - 1) (depth t x h))
+
+-- who holds it: 0 for nobody, suc c for thread c; nobody once a release has undone the last level
 abbrev pub holder : Trace → ℕ → List ℕ → ℕ
 holder t x [] = 0
-holder t x (k ∷ h) = cond (does t acquire x k) (suc (threadOf t k)) (cond (does t release x k) 0 (holder t x h))
+holder t x (k ∷ h) = cond (does t acquire x k) (suc (threadOf t k)) (cond (does t release x k && leb (depth t x h) 1) 0 (holder t x h))
 
--- after a history event k may acquire its lock: nobody holds it; or release it: its thread holds it
+-- after a history event k may acquire its lock: no other thread holds it; or release it: its thread holds it
 abbrev pub Free : Trace → List ℕ → ℕ → Type 0
-Free t h k = holder t (objectOf t k) h ≡ 0
+Free t h k = (holder t (objectOf t k) h ≡ 0) ⊎ (holder t (objectOf t k) h ≡ suc (threadOf t k))
 
 abbrev pub Held : Trace → List ℕ → ℕ → Type 0
 Held t h k = holder t (objectOf t k) h ≡ suc (threadOf t k)
 
--- well-formed: an acquire takes a lock that nobody holds, the taker included; a release is by the holder
+-- well-formed: an acquire takes a lock that no other thread holds; a release is by the holder
 pub record WellFormed (t : Trace) : Type 0 where
   pub taken-free : (k : ℕ) → Valid t k → kindOf t k ≡ acquire → Free t (before k) k
   pub given-back : (k : ℕ) → Valid t k → kindOf t k ≡ release → Held t (before k) k

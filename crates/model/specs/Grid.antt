@@ -8,10 +8,11 @@ use mathlib.Core.Option.{Option, none, some}
 use mathlib.Core.List.{List, [], _∷_, reverse}
 use lib.ListN.{length, getD, take, drop}
 use lib.Dec.{eqb, ltb}
-use Rattle.model.specs.Trace.{Trace, read, write, acquire, threadOf, kindOf, objectOf, does}
+use Rattle.model.specs.Trace.{Trace, read, write, acquire, release, threadOf, kindOf, objectOf, does}
 use Rattle.model.specs.Lists.{listed, only, is, but}
 use Rattle.model.specs.Observed.{observed}
-use Rattle.model.specs.Check.{isSeen, isFree}
+use Rattle.model.specs.Sections.{isLast}
+use Rattle.model.specs.Check.{isOpen, isSeen}
 
 -- the threads of one of the two lists: m alone (true), or every other (false)
 abbrev pub side : ℕ → Bool → ℕ → Bool
@@ -40,9 +41,14 @@ readStep t m b ho k = not (sawOther t m b k) || isSeen t ho k
 unfoldable pub writeStep : Trace → ℕ → Bool → List ℕ → List ℕ → List ℕ → ℕ → Bool
 writeStep t m b ho rs ro k = pendingPass t (objectOf t k) (λ j. sawOther t m (not b) j) ro && pendingPass t (objectOf t k) (λ j. sawNone t ho j) rs
 
--- An acquired lock is held in neither list.
+-- Who holds lock x after a history, told by the latest event on it: the thread of that event, but nobody after a last release.
+abbrev pub keeper : Trace → ℕ → List ℕ → ℕ
+keeper t x [] = 0
+keeper t x (k ∷ h) = cond (does t acquire x k || does t release x k) (cond (isLast t k) 0 (suc (threadOf t k))) (keeper t x h)
+
+-- An acquired lock is held by another thread in neither list.
 unfoldable pub lockStep : Trace → List ℕ → List ℕ → ℕ → Bool
-lockStep t hs ho k = isFree t hs k && isFree t ho k
+lockStep t hs ho k = isOpen (threadOf t k) (keeper t (objectOf t k) hs) && isOpen (threadOf t k) (keeper t (objectOf t k) ho)
 
 unfoldable pub mayStep : Trace → ℕ → Bool → List ℕ → List ℕ → List ℕ → List ℕ → ℕ → Bool
 mayStep t m b hs ho rs ro k =

@@ -4,7 +4,9 @@ pub mod Observed
 pub mod LastWrite
 pub mod Good
 pub mod Reordering
+pub mod Sections
 pub mod Cone
+pub mod Matching
 pub mod Race
 pub mod Extension
 pub mod Check

@@ -22,7 +22,7 @@ pub record CorrectReordering (t : Trace) (ρ : List ℕ) : Type 0 where
   pub once : (σ : List ℕ) (k : ℕ) → StandsAfter ρ σ k → ¬ (k ∈ σ)
   -- each thread's events in it are the beginning of that thread's events, in order
   pub beginnings : (c : ℕ) → (rest : List ℕ) × (own t c (numbers t) ≡ own t c ρ ++ rest)
-  -- no lock is acquired while held
+  -- no lock is acquired while held: no other thread holds it (so in a well-formed trace an inner acquire may come, and an outermost one where nobody holds its lock)
   pub locks : (σ : List ℕ) (k : ℕ) → StandsAfter ρ σ k → kindOf t k ≡ acquire → Free t (reverse σ) k
   -- each read sees in the list the write it observed
   pub reads : (σ : List ℕ) (k : ℕ) → StandsAfter ρ σ k → kindOf t k ≡ read → observed t k ≢ 0 → lastWrite t (objectOf t k) (reverse σ) ≡ observed t k

@@ -75,7 +75,7 @@ found-front : (ρ list : List ℕ) → length ρ ≤ length list → sets list 0
 unfolding inFront
 found-front ρ list h = sets-eq ρ list 0 (omega arith) ∙ rw (zero-add (length ρ))
 
-module _ {t : Trace} {obs p q area list : List ℕ} (g : Given t obs p q area list) where
+module _ {t : Trace} {obs rel p q area list : List ℕ} (g : Given t obs rel p q area list) where
   module _ (m : ℕ) {area′ list′ : List ℕ} (r : Bool) (f : Found (path t m p q (length p + length q) 0 0) area area′ list list′ r) where
     pub path-found : r ≡ true → Shows (pathOf t m p q) list list′ area area′ (Length (length p + length q))
     unfolding pathOf
@@ -90,7 +90,7 @@ module _ {t : Trace} {obs p q area list : List ℕ} (g : Given t obs p q area li
     unfolding pathOf
     path-absent w = let x = found-none f w in rw (x .0) (record { says = refl; wrote = x .1; same = f .same })
 
-module _ {t : Trace} {obs flags list area : List ℕ} (s : Searching t obs flags list area) where
+module _ {t : Trace} {obs rel flags list area : List ℕ} (s : Searching t obs rel flags list area) where
   module _ {m : ℕ} where
     picked-low : {w : Bool} {r : ℕ} {out : List ℕ} → Picked t m w flags r out → length out ≡ maxEvents → r ≤ length out
     picked-low x l = let f = s .few in let h = x .few in omega arith
@@ -111,7 +111,7 @@ module _ {t : Trace} {obs flags list area : List ℕ} (s : Searching t obs flags
           let d = picked-length y ly in
           omega arith
 
-      pub find-given : Given t obs (take p moved) (take q others) area list
+      pub find-given : Given t obs rel (take p moved) (take q others) area list
       find-given =
           let c = picked-length x lx in
           let d = picked-length y ly in
@@ -124,6 +124,7 @@ module _ {t : Trace} {obs flags list area : List ℕ} (s : Searching t obs flags
           let qf : length (take q others) ≤ maxEvents = omega arith in
           record {
             table = s .seen;
+            released = s .released;
             p-valid = rw (x .is) (flagged-valid t m flags true);
             q-valid = rw (y .is) (flagged-valid t m flags false);
             p-few = pf;

@@ -16,16 +16,17 @@ pub enum Shown {
 fn find(
     ev: &[u8],
     observed: &[u16],
+    released: &[u16],
     p: &[u16],
     q: &[u16],
     m: u8,
     list: &mut [u16],
     area: &mut [u8],
 ) -> Shown
-    requires { ⌜ Given (trace (now ev)) (now observed) (now p) (now q) (now area) (now list) × Clear (now area) ⌝ }
+    requires { ⌜ Given (trace (now ev)) (now observed) (now released) (now p) (now q) (now area) (now list) × Clear (now area) ⌝ }
     ensures { λ r. ⌜ Shows (pathOf (trace (now (ev .entry))) m (now (p .entry)) (now (q .entry))) (now (list .entry)) (now (list .exit)) (now (area .entry)) (now (area .exit)) r ⌝ }
 {
-    if merge::find(ev, observed, p, q, m, list, area) {
+    if merge::find(ev, observed, released, p, q, m, list, area) {
         return Shown::Length((p.len() + q.len()) as u16);
     }
     Shown::Absent
@@ -35,19 +36,20 @@ fn find(
 fn search(
     ev: &[u8],
     observed: &[u16],
+    released: &[u16],
     flags: &[u8],
     m: u8,
     list: &mut [u16],
     area: &mut [u8],
 ) -> Shown
-    requires { ⌜ Searching (trace (now ev)) (now observed) (now flags) (now list) (now area) ⌝ }
+    requires { ⌜ Searching (trace (now ev)) (now observed) (now released) (now flags) (now list) (now area) ⌝ }
     ensures { λ r. ⌜ Shows (searchOf (trace (now (ev .entry))) m (now (flags .entry))) (now (list .entry)) (now (list .exit)) (now (area .entry)) (now (area .exit)) r ⌝ }
 {
     let mut p = [0u16; Trace::MAX_EVENTS];
     let np = sides::pick(ev, flags, m, true, &mut p);
     let mut q = [0u16; Trace::MAX_EVENTS];
     let nq = sides::pick(ev, flags, m, false, &mut q);
-    find(ev, observed, &p[..np], &q[..nq], m, list, area)
+    find(ev, observed, released, &p[..np], &q[..nq], m, list, area)
 }
 
 // The witness of a conflicting pair, in the front of the lent list. No pair is reported with a or b in its cone.
@@ -76,5 +78,5 @@ pub fn witness(
         return Shown::Absent;
     }
     let m = format::thread_at(ev, lower);
-    search(ev, observed, &flags, m, list, area)
+    search(ev, observed, released, &flags, m, list, area)
 }

@@ -3,17 +3,17 @@ use Prim.Native.Nat.{ℕ, suc, _+_, _-_, _≤_, _<_}
 use native.Mathlib.Omega.{arith}
 use native.Mathlib.Numerals.{add-one}
 use mathlib.Core.Path.{_≡_, sym, _∙_, ap}
-use mathlib.Core.Bool.{Bool, true, false, cond, _&&_, not}
+use mathlib.Core.Bool.{Bool, true, false, cond, _&&_, _||_, not}
 use mathlib.Core.List.{List, [], _∷_}
 use lib.ListN.{length, getD, drop, drop-of-length-le}
 use lib.Seq.{drop-cons}
-use lib.Dec.{eqb}
 use borrow.Author.Tests.{not-true, not-false, eq-eqb, ne-eqb}
 use Rattle.model.specs.Trace.{Trace, Valid, write, acquire, release, threadOf, does}
 use Rattle.model.specs.Lists.{listed}
 use Rattle.model.specs.Observed.{lastWrite}
-use Rattle.model.specs.Good.{holder}
-use Rattle.model.specs.Grid.{pendingPass, passed}
+use Rattle.model.specs.Sections.{isLast}
+use Rattle.model.specs.Check.{isOpen}
+use Rattle.model.specs.Grid.{pendingPass, keeper, passed}
 use Rattle.model.proofs.Merges.{passed-suc}
 use Rattle.steps.specs.Steps.{AllValid, fits}
 
@@ -45,21 +45,20 @@ back-end {f = f} {l} {n} {i} s h = let e : i ≡ 0 = omega arith in s .same ∙ 
 does-at : (t : Trace) (c x : ℕ) {k k′ : ℕ} {b v : Bool} → k ≡ k′ → b ≡ does t c x k → b ≡ v → does t c x k′ ≡ v
 does-at t c x e d z = ap (does t c x) (sym e) ∙ sym d ∙ z
 
--- a lock: its last acquire or release decides
-module _ (t : Trace) (x : ℕ) {l : List ℕ} {n i : ℕ} (s : Back (holder t x) l n i) where
-  pub free-end : i ≤ 0 → true ≡ eqb (holder t x (passed l n)) 0
-  free-end h = rw (back-end s h)
+-- a lock: the latest event on it decides
+module _ (t : Trace) (x c : ℕ) {l : List ℕ} {n i : ℕ} (s : Back (keeper t x) l n i) where
+  pub open-end : i ≤ 0 → true ≡ isOpen c (keeper t x (passed l n))
+  open-end h = rw (back-end s h)
 
-  module _ (more : 0 < i) (w : n ≤ length l) (k : ℕ) (e : k ≡ getD l (i - 1) 0) (b : Bool) (d : b ≡ does t acquire x k) where
-    pub free-taken : b ≡ true → false ≡ eqb (holder t x (passed l n)) 0
-    free-taken z = rw (now-back s more w, does-at t acquire x e d z) (sym (ne-eqb (suc (threadOf t (getD l (i - 1) 0))) 0 (λ y. omega arith)))
+  module _ (more : 0 < i) (w : n ≤ length l) (k : ℕ) (e : k ≡ getD l (i - 1) 0) (b : Bool) (d : b ≡ does t acquire x k || does t release x k) where
+    on-at : (v : Bool) → b ≡ v → does t acquire x (getD l (i - 1) 0) || does t release x (getD l (i - 1) 0) ≡ v
+    on-at v z = ap (λ (j : ℕ). does t acquire x j || does t release x j) (sym e) ∙ sym d ∙ z
 
-    module _ (z : b ≡ false) (b′ : Bool) (d′ : b′ ≡ does t release x k) where
-      pub free-given : b′ ≡ true → true ≡ eqb (holder t x (passed l n)) 0
-      free-given y = rw (now-back s more w, does-at t acquire x e d z, does-at t release x e d′ y)
+    pub open-here : b ≡ true → (r : Bool) → r ≡ isOpen c (cond (isLast t k) 0 (suc (threadOf t k))) → r ≡ isOpen c (keeper t x (passed l n))
+    open-here z r g = g ∙ sym (rw (now-back s more w, on-at true z, e))
 
-      pub free-more : b′ ≡ false → Back (holder t x) l n (i - 1)
-      free-more y = step-back s more w (rw (does-at t acquire x e d z, does-at t release x e d′ y))
+    pub open-more : b ≡ false → Back (keeper t x) l n (i - 1)
+    open-more z = step-back s more w (rw (on-at false z))
 
 -- a cell: its last write
 module _ (t : Trace) (x : ℕ) {l : List ℕ} {n i : ℕ} (s : Back (lastWrite t x) l n i) where

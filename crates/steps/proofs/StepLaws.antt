@@ -1,23 +1,25 @@
 -- One law for each way through the step tests.
-use Prim.Native.Nat.{ℕ, _+_}
+use Prim.Native.Nat.{ℕ, suc, _+_}
 use native.Mathlib.Omega.{arith}
+use native.Mathlib.Nat.{suc-inj}
 use native.Mathlib.Numerals.{add-one}
 use mathlib.Core.Path.{_≡_, sym, _∙_, ap}
-use mathlib.Core.Bool.{Bool, true, false, _&&_, not}
+use mathlib.Core.Bool.{Bool, true, false, cond, _&&_, _||_, not}
 use mathlib.Core.List.{List}
 use lib.ListN.{getD, drop}
 use lib.Dec.{eqb}
-use borrow.Author.Tests.{not-true, not-false, ne-eqb, lt-ltb}
-use Rattle.model.specs.Trace.{Trace, Valid, read, write, acquire, threadOf, kindOf, objectOf, does}
+use borrow.Author.Tests.{eqb-true, eqb-false, eq-eqb, not-true, not-false, ne-eqb, lt-ltb}
+use Rattle.model.specs.Trace.{Trace, Valid, read, write, acquire, release, threadOf, kindOf, objectOf, does}
 use Rattle.model.specs.Lists.{listed, is, but}
 use Rattle.model.specs.Observed.{lastWrite, observed}
-use Rattle.model.specs.Good.{holder}
-use Rattle.model.specs.Check.{isSeen, isFree}
-use Rattle.model.specs.Grid.{sawOther, sawNone, pendingPass, readStep, writeStep, lockStep, mayStep, passed, stepAt}
-use Rattle.model.proofs.Tests.{does-true}
+use Rattle.model.specs.Sections.{isLast}
+use Rattle.model.specs.Check.{isOpen, isSeen}
+use Rattle.model.specs.Grid.{sawOther, sawNone, pendingPass, readStep, writeStep, keeper, lockStep, mayStep, passed, stepAt}
+use Rattle.model.proofs.Tests.{by-cases, does-true}
 use Rattle.model.proofs.Histories.{observed-range}
 use Rattle.model.proofs.GridSteps.{may-read, may-write, may-acquire}
-use Rattle.links.proofs.LinkFacts.{reads-observed}
+use Rattle.links.specs.Links.{Released}
+use Rattle.links.proofs.LinkFacts.{reads-observed, released-last}
 use Rattle.steps.specs.Steps.{Seen, Steps, fits}
 use Rattle.steps.proofs.ScanLaws.{valid-at}
 
@@ -77,6 +79,29 @@ module _ (t : Trace) (x k : ℕ) (b : Bool) (d : b ≡ does t read x k) where
     fits-none table v h r g =
         ap not g ∙ ap (λ (o : ℕ). not (listed o h)) (seen-is table v (read-kind z)) ∙ sym (fits-read (sawNone t h) z)
 
+-- ---- the latest event on a lock
+
+module _ (t : Trace) (x k : ℕ) (b : Bool) (d : b ≡ does t acquire x k) where
+  pub on-acquire : b ≡ true → true ≡ does t acquire x k || does t release x k
+  on-acquire z = rw (← d, z)
+
+  pub on-release : b ≡ false → (r : Bool) → r ≡ does t release x k → r ≡ does t acquire x k || does t release x k
+  on-release z r g = rw (← d, z) g
+
+module _ {t : Trace} {rel : List ℕ} (table : Released t rel) {k : ℕ} (v : Valid t k) (r : ℕ) (e : r ≡ getD rel k 0) (c : ℕ) where
+  last-is : isLast t k ≡ eqb r k
+  last-is = released-last t table v ∙ ap (λ (j : ℕ). eqb j k) (sym e)
+
+  pub open-last : r ≡ k → true ≡ isOpen c (cond (isLast t k) 0 (suc (threadOf t k)))
+  open-last z = rw (last-is, eq-eqb r k z)
+
+  pub open-own : (r ≡ k → ⊥) → (d : ℕ) → d ≡ threadOf t k → eqb d c ≡ isOpen c (cond (isLast t k) 0 (suc (threadOf t k)))
+  open-own ne d ed =
+      rw (last-is, ne-eqb r k ne, ne-eqb (suc (threadOf t k)) 0 (λ z. omega arith), ← ed)
+      (by-cases (eqb d c)
+      (λ z. rw (z, eq-eqb (suc d) (suc c) (ap suc (eqb-true _ _ z))))
+      (λ z. rw (z, ne-eqb (suc d) (suc c) (λ y. eqb-false d c z (suc-inj y)))))
+
 -- ---- the three tests
 
 module _ (t : Trace) (m : ℕ) (side : Bool) (ho : List ℕ) (k : ℕ) (b : Bool) (d : b ≡ sawOther t m side k) where
@@ -100,15 +125,15 @@ module _ (t : Trace) (m : ℕ) (side : Bool) (ho rs ro : List ℕ) (k x : ℕ) (
   pub write-goes : not b ≡ false → (r : Bool) → r ≡ pendingPass t x (sawNone t ho) rs → r ≡ writeStep t m side ho rs ro k
   write-goes z r g = g ∙ (rw (not-false b z) at is-write)
 
-module _ (t : Trace) (hs ho : List ℕ) (k x : ℕ) (ex : x ≡ objectOf t k) (b : Bool) (d : b ≡ eqb (holder t x hs) 0) where
-  is-lock : b && eqb (holder t x ho) 0 ≡ lockStep t hs ho k
-  unfolding lockStep isFree
-  is-lock = rw (d, ex)
+module _ (t : Trace) (hs ho : List ℕ) (k x : ℕ) (ex : x ≡ objectOf t k) (c : ℕ) (ec : c ≡ threadOf t k) (b : Bool) (d : b ≡ isOpen c (keeper t x hs)) where
+  is-lock : b && isOpen c (keeper t x ho) ≡ lockStep t hs ho k
+  unfolding lockStep
+  is-lock = rw (d, ex, ec)
 
   pub lock-stops : not b ≡ true → false ≡ lockStep t hs ho k
   lock-stops z = rw (not-true b z) at is-lock
 
-  pub lock-goes : not b ≡ false → (r : Bool) → r ≡ eqb (holder t x ho) 0 → r ≡ lockStep t hs ho k
+  pub lock-goes : not b ≡ false → (r : Bool) → r ≡ isOpen c (keeper t x ho) → r ≡ lockStep t hs ho k
   lock-goes z r g = g ∙ (rw (not-false b z) at is-lock)
 
 -- ---- may_step

@@ -2,15 +2,17 @@
 // One list is the moved thread's (`side` is true), the other has the events of all other threads (false).
 use limits::Event;
 ghost use mathlib.Core.Path.{_≡_};
-ghost use Prim.Native.Nat.{_+_, _≤_};
+ghost use mathlib.Core.Bool.{cond, _||_};
+ghost use Prim.Native.Nat.{suc, _+_, _≤_};
 ghost use lib.ListN.{length, drop};
-ghost use lib.Dec.{eqb};
-ghost use Rattle.model.specs.Trace.{Valid, read, kindOf};
+ghost use Rattle.model.specs.Trace.{Valid, read, acquire, release, threadOf, kindOf, does};
 ghost use Rattle.model.specs.Lists.{listed};
 ghost use Rattle.model.specs.Observed.{lastWrite};
-ghost use Rattle.model.specs.Good.{holder};
-ghost use Rattle.model.specs.Grid.{sawOther, sawNone, pendingPass, readStep, writeStep, lockStep, passed, stepAt};
+ghost use Rattle.model.specs.Sections.{isLast};
+ghost use Rattle.model.specs.Check.{isOpen};
+ghost use Rattle.model.specs.Grid.{sawOther, sawNone, pendingPass, readStep, writeStep, keeper, lockStep, passed, stepAt};
 ghost use Rattle.format.specs.Bytes.{trace};
+ghost use Rattle.links.specs.Links.{Released};
 ghost use Rattle.steps.specs.Steps.{Seen, AllValid, Steps, fits};
 
 // An event number of a list as one that the bytes are read by.
@@ -20,20 +22,39 @@ fn wide(k: u16) -> usize
     k as usize
 }
 
-// Is the lock free after the first events of a list?
-fn lock_free(ev: &[u8], list: &[u16], upto: usize, lock: usize) -> bool
-    requires { ⌜ AllValid (trace (now ev)) (now list) × (upto ≤ length (now list)) ⌝ }
-    ensures { λ r. ⌜ r ≡ eqb (holder (trace (now (ev .entry))) lock (passed (now (list .entry)) upto)) 0 ⌝ }
+// Is event k an acquire or a release of the lock?
+fn on_lock(ev: &[u8], k: usize, lock: usize) -> bool
+    requires { ⌜ Valid (trace (now ev)) k ⌝ }
+    ensures { λ r. ⌜ r ≡ does (trace (now (ev .entry))) acquire lock k || does (trace (now (ev .entry))) release lock k ⌝ }
+{
+    if format::is_event(ev, k, Event::ACQUIRE, lock) {
+        return true;
+    }
+    format::is_event(ev, k, Event::RELEASE, lock)
+}
+
+// May thread c acquire the lock on which event k is the latest? It may after a last release, which is linked to itself, and after an event of its own.
+fn leaves_open(ev: &[u8], released: &[u16], k: usize, c: u8) -> bool
+    requires { ⌜ Released (trace (now ev)) (now released) × Valid (trace (now ev)) k ⌝ }
+    ensures { λ r. ⌜ r ≡ isOpen c (cond (isLast (trace (now (ev .entry))) k) 0 (suc (threadOf (trace (now (ev .entry))) k))) ⌝ }
+{
+    if wide(released[k]) == k {
+        return true;
+    }
+    format::thread_at(ev, k) == c
+}
+
+// May thread c acquire the lock after the first events of a list? The latest event on it tells.
+fn lock_open(ev: &[u8], released: &[u16], list: &[u16], upto: usize, lock: usize, c: u8) -> bool
+    requires { ⌜ Released (trace (now ev)) (now released) × AllValid (trace (now ev)) (now list) × (upto ≤ length (now list)) ⌝ }
+    ensures { λ r. ⌜ r ≡ isOpen c (keeper (trace (now (ev .entry))) lock (passed (now (list .entry)) upto)) ⌝ }
 {
     let mut i = upto;
     while 0 < i {
         i -= 1;
         let k = wide(list[i]);
-        if format::is_event(ev, k, Event::ACQUIRE, lock) {
-            return false;
-        }
-        if format::is_event(ev, k, Event::RELEASE, lock) {
-            return true;
+        if on_lock(ev, k, lock) {
+            return leaves_open(ev, released, k, c);
         }
     }
     true
@@ -203,22 +224,32 @@ fn write_step(
     pending_own(ev, observed, own, i + 1, cell, other, j)
 }
 
-// An acquired lock is held in neither list.
-fn lock_step(ev: &[u8], own: &[u16], i: usize, other: &[u16], j: usize, k: usize) -> bool
-    requires { ⌜ AllValid (trace (now ev)) (now own) × (i ≤ length (now own)) × AllValid (trace (now ev)) (now other) × (j ≤ length (now other)) × Valid (trace (now ev)) k ⌝ }
+// An acquired lock is held by another thread in neither list.
+fn lock_step(
+    ev: &[u8],
+    released: &[u16],
+    own: &[u16],
+    i: usize,
+    other: &[u16],
+    j: usize,
+    k: usize,
+) -> bool
+    requires { ⌜ Released (trace (now ev)) (now released) × AllValid (trace (now ev)) (now own) × (i ≤ length (now own)) × AllValid (trace (now ev)) (now other) × (j ≤ length (now other)) × Valid (trace (now ev)) k ⌝ }
     ensures { λ r. ⌜ r ≡ lockStep (trace (now (ev .entry))) (passed (now (own .entry)) i) (passed (now (other .entry)) j) k ⌝ }
 {
     let lock = format::object_at(ev, k);
-    if !lock_free(ev, own, i, lock) {
+    let c = format::thread_at(ev, k);
+    if !lock_open(ev, released, own, i, lock, c) {
         return false;
     }
-    lock_free(ev, other, j, lock)
+    lock_open(ev, released, other, j, lock, c)
 }
 
 // May event i of its own list, the list `side`, come next, where j events of the other list were passed?
 pub fn may_step(
     ev: &[u8],
     observed: &[u16],
+    released: &[u16],
     own: &[u16],
     i: usize,
     other: &[u16],
@@ -226,7 +257,7 @@ pub fn may_step(
     moved: u8,
     side: bool,
 ) -> bool
-    requires { ⌜ Steps (trace (now ev)) (now observed) (now own) (now other) i j ⌝ }
+    requires { ⌜ Steps (trace (now ev)) (now observed) (now own) (now other) i j × Released (trace (now ev)) (now released) ⌝ }
     ensures { λ r. ⌜ r ≡ stepAt (trace (now (ev .entry))) moved side (now (own .entry)) (now (other .entry)) i j ⌝ }
 {
     let k = wide(own[i]);
@@ -238,7 +269,7 @@ pub fn may_step(
         return write_step(ev, observed, own, i, other, j, moved, side, k);
     }
     if kind == Event::ACQUIRE {
-        return lock_step(ev, own, i, other, j, k);
+        return lock_step(ev, released, own, i, other, j, k);
     }
     true
 }

@@ -1,5 +1,5 @@
 use borrow.Author.Needs.{needs}
-use Rattle.links.proofs.TableLaws.{table-room}
+use Rattle.links.proofs.TableLaws.{tables-room}
 use Rattle.checking.proofs.CheckingLaws.{check-refused, check-asked, check-clean, check-fault}
 use Rattle.checking.proofs.check_in.Statement.{statement}
 use Rattle.checking.proofs.check_in.Tie as tie
@@ -11,9 +11,10 @@ check-in-spec =
     (λ c κs. search needs)
     (λ c. search (check-refused, needs))
     (λ c. search needs)
-    (λ c κs. search needs)
     (λ c. search needs)
-    (λ c κs. search (table-room, needs))
+    (λ c. search needs)
+    (λ c κs. search (tables-room, needs))
+    (λ c. search needs)
     (λ c. search needs)
     (λ c. search needs)
     (λ c κs. search (check-asked, needs))

@@ -1,5 +1,5 @@
 use borrow.Author.Needs.{needs}
-use Rattle.faults.proofs.PlaceLaws.{sees-same, sees-other, lock-free, lock-taken, no-access}
+use Rattle.faults.proofs.PlaceLaws.{sees-same, sees-other, lock-free, lock-own, lock-taken, no-access}
 use Rattle.faults.proofs.access_fault.Statement.{statement}
 use Rattle.faults.proofs.access_fault.Tie as tie
 
@@ -7,6 +7,7 @@ pub access-fault-spec : {M : Type 1} → statement M
 access-fault-spec =
     tie.close
     (tie.spec
+    (λ c κs. search needs)
     (λ c κs. search needs)
     (λ c κs. search needs)
     (λ c. search needs)
@@ -17,5 +18,9 @@ access-fault-spec =
     (λ c. search sees-other)
     (λ c. search needs)
     (λ c. search (lock-free, needs))
-    (λ c. search lock-taken)
+    (λ c. search needs)
+    (λ c. search needs)
+    (λ c. search needs)
+    (λ c. search (lock-own, needs))
+    (λ c. search (lock-taken, needs))
     (λ c. search (no-access, needs)))

@@ -1,5 +1,5 @@
 use borrow.Author.Needs.{needs}
-use Rattle.faults.proofs.PassLaws.{pass-write, pass-acquire, pass-release, pass-other}
+use Rattle.faults.proofs.PassLaws.{pass-write, pass-acquire, pass-last, pass-other}
 use Rattle.faults.proofs.pass.Statement.{statement}
 use Rattle.faults.proofs.pass.Tie as tie
 
@@ -20,5 +20,7 @@ pass-spec =
     (λ c. search needs)
     (λ c. search (pass-acquire, needs))
     (λ c. search needs)
-    (λ c. search (pass-release, needs))
+    (λ c. search needs)
+    (λ c. search needs)
+    (λ c. search (pass-last, needs))
     (λ c. search (pass-other, needs)))

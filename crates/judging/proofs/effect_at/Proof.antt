@@ -1,4 +1,4 @@
-use Rattle.judging.proofs.EffectLaws.{kind-unknown, thread-over-limit, object-over-limit, own-fits, object-below, acquires, was-held, releases, not-by-holder, passes}
+use Rattle.judging.proofs.EffectLaws.{kind-unknown, thread-over-limit, object-over-limit, within-limits}
 use borrow.Author.Needs.{needs}
 use Rattle.judging.proofs.effect_at.Statement.{statement}
 use Rattle.judging.proofs.effect_at.Tie as tie
@@ -15,11 +15,5 @@ effect-at-spec =
     (λ c. search (thread-over-limit, needs))
     (λ c κs. search needs)
     (λ c. search (object-over-limit, needs))
-    (λ c. search (own-fits, needs))
-    (λ c. search (object-below, needs))
-    (λ c. search (acquires, needs))
-    (λ c. search (was-held, needs))
-    (λ c. search (object-below, needs))
-    (λ c. search (releases, needs))
-    (λ c. search (not-by-holder, needs))
-    (λ c. search (passes, needs)))
+    (λ c κs. search (within-limits, needs))
+    (λ c. search needs))

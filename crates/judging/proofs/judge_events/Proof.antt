@@ -2,7 +2,7 @@ use mathlib.Core.Logic.{⊎-elim}
 use Prim.Native.Nat.{_+_, _-_}
 use borrow.Author.Needs.{needs}
 use Rattle.format.specs.Bytes.{trace}
-use Rattle.judging.proofs.WalkLaws.{Judging, judging-start, judging-valid, judging-ready, judging-pass, judging-object, judging-hold}
+use Rattle.judging.proofs.WalkLaws.{Judging, judging-start, judging-valid, judging-ready, judging-pass, judging-object, judging-offset, judging-hold}
 use Rattle.judging.proofs.FileLaws.{few-events, events-refused, events-good}
 use Rattle.judging.proofs.judge_events.Statement.{statement}
 use Rattle.judging.proofs.judge_events.Tie as tie
@@ -27,6 +27,8 @@ judge-events-spec =
     (λ c. search needs)
     (λ c. search needs)
     (λ c κs. search (judging-valid, needs))
+    (λ c. search (judging-object, needs))
+    (λ c. search (judging-offset, needs))
     (λ c. search (judging-object, needs))
     (λ c. search needs)
     (λ c. search (events-refused, needs))

@@ -1,5 +1,6 @@
-use Rattle.linking.proofs.StepLaws.{step-object, step-offset, step-asks, step-gives, step-other}
+use Rattle.linking.proofs.StepLaws.{step-read, step-write, step-other}
 use borrow.Author.Needs.{needs}
+use Rattle.limits.proofs.IndexLaws.{object-index, object-offset}
 use Rattle.linking.proofs.link_event.Statement.{statement}
 use Rattle.linking.proofs.link_event.Tie as tie
 
@@ -9,18 +10,18 @@ link-event-spec =
     (tie.spec
     (λ c κs. search needs)
     (λ c κs. search needs)
-    (λ c. search (step-offset, needs))
-    (λ c. search (step-object, needs))
+    (λ c. search (object-offset, needs))
+    (λ c. search (object-index, needs))
     (λ c. search needs)
     (λ c. search needs)
     (λ c. search needs)
-    (λ c. search step-asks)
+    (λ c. search step-read)
     (λ c. search needs)
     (λ c. search needs)
     (λ c. search needs)
-    (λ c. search (step-offset, needs))
-    (λ c. search (step-object, needs))
+    (λ c. search (object-offset, needs))
+    (λ c. search (object-index, needs))
     (λ c. search needs)
-    (λ c. search step-gives)
+    (λ c. search step-write)
     (λ c. search needs)
     (λ c. search step-other))

@@ -7,10 +7,10 @@ use Rattle.reordering.proofs.check.Statement.{statement}
 use Rattle.reordering.proofs.check.Tie as tie
 
 abbrev Inv-loop : tie.InvT-loop
-Inv-loop ev previous observed a b list last₀ writes₀ locks₀ i₀ last writes locks i = Passing (trace ev) list i last writes locks
+Inv-loop ev previous observed released a b list last₀ writes₀ locks₀ i₀ last writes locks i = Passing (trace ev) list i last writes locks
 
 abbrev μ-loop : tie.MeasureT-loop
-μ-loop ev previous observed a b list last₀ writes₀ locks₀ i₀ last writes locks i = length list - i
+μ-loop ev previous observed released a b list last₀ writes₀ locks₀ i₀ last writes locks i = length list - i
 
 pub check-spec : {M : Type 1} → statement M
 check-spec =

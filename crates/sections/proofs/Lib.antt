@@ -1,0 +1,3 @@
+-- The ways through each step
+pub mod CountLaws
+pub mod CloseLaws
