@@ -34,10 +34,10 @@ unfolding sameList
 same-refl [] = refl
 same-refl (x ∷ l) = true-both (eq-eqb x x refl) (same-refl l)
 
-pub open-true : (c o : ℕ) → isOpen c o ≡ true → (o ≡ 0) ⊎ (o ≡ suc c)
+open-true : (c o : ℕ) → isOpen c o ≡ true → (o ≡ 0) ⊎ (o ≡ suc c)
 open-true c o e = ⊎-elim (λ p. inl (eqb-true _ _ p)) (λ p. inr (eqb-true _ _ p)) (either-true (eqb o 0) (eqb o (suc c)) e)
 
-pub true-open : (c o : ℕ) → (o ≡ 0) ⊎ (o ≡ suc c) → isOpen c o ≡ true
+true-open : (c o : ℕ) → (o ≡ 0) ⊎ (o ≡ suc c) → isOpen c o ≡ true
 true-open c o s = true-either (eqb o 0) (eqb o (suc c)) (⊎-elim (λ p. inl (eq-eqb _ _ p)) (λ p. inr (eq-eqb _ _ p)) s)
 
 module _ (t : Trace) where

@@ -1,5 +1,5 @@
 -- A merge in which each event is enabled in its turn is correct exactly when every step passes its test on the grid.
-use Prim.Native.Nat.{ℕ}
+use Prim.Native.Nat.{ℕ, suc}
 use native.Mathlib.Omega.{arith}
 use mathlib.Core.Path.{_≡_, refl, sym, _∙_, ap}
 use mathlib.Core.Logic.{_≢_, _⊎_, inl, inr, ⊎-elim, _↔_}
@@ -12,14 +12,13 @@ use Rattle.model.specs.Lists.{_∈_, listed, only, is}
 use Rattle.model.specs.Observed.{lastWrite, observed}
 use Rattle.model.specs.Good.{holder, Free, WellFormed}
 use Rattle.model.specs.Reordering.{Enabled, Sees, Step, Correct, CorrectFrom}
-use Rattle.model.specs.Check.{isOpen}
 use Rattle.model.specs.Grid.{side, sawOther, sawNone, pendingPass, readStep, writeStep, keeper, lockStep, mayStep}
-use Rattle.model.proofs.Tests.{by-cases, in-cons, clash, both, true-both, is-true, is-false, but-true, true-but, false-but, false-is, does-true, true-does, false-does}
+use Rattle.model.proofs.Tests.{by-cases, in-cons, clash, both, true-both, either-true, or-right, is-true, is-false, but-true, true-but, false-but, false-is, does-true, true-does, false-does}
 use Rattle.model.proofs.Lists.{mem-only, mem-listed, listed-mem}
 use Rattle.model.proofs.Histories.{Legal, enabled-out, lastWrite-mem, lastWrite-kept}
-use Rattle.model.proofs.Locks.{locked, free-only, locked-only, free-parts}
+use Rattle.model.proofs.Locks.{locked, free-only, locked-only, held-part, nobody-parts}
 use Rattle.model.proofs.SectionsExact.{in-turn, in-turn-only, keeper-holder}
-use Rattle.model.proofs.CheckExact.{open-true, true-open, seen-true, true-seen}
+use Rattle.model.proofs.CheckExact.{seen-true, true-seen}
 
 -- ---- the two lists
 
@@ -127,14 +126,10 @@ read-sees t x j k h s e r =
     let d = does-true t read x k (rw e at r) in
     ap (λ (y : ℕ). lastWrite t y h) (sym (d .1)) ∙ s .sees (d .0) ∙ ap (observed t) (sym e)
 
--- ---- whether an acquire may come in one of the lists is told by the latest event on its lock there
+-- ---- who holds a lock in one of the lists is told by the latest event on it there
 
-open-part : (t : Trace) → WellFormed t → (h : List ℕ) → Legal t h → (s : ℕ → Bool) (k : ℕ)
-    → (isOpen (threadOf t k) (keeper t (objectOf t k) (only t s h)) ≡ true) ↔ Free t (only t s h) k
-open-part t w h l s k =
-    let o = holder t (objectOf t k) (only t s h) in
-    let e : keeper t (objectOf t k) (only t s h) ≡ o = keeper-holder t (objectOf t k) (only t s h) (locked-only t s h (locked t w h l)) (in-turn-only t s h (in-turn t h l)) in
-    ((λ p. open-true (threadOf t k) o (rw e at p)), (λ f. rw e (true-open (threadOf t k) o f)))
+keeper-part : (t : Trace) → WellFormed t → (h : List ℕ) → Legal t h → (s : ℕ → Bool) (x : ℕ) → keeper t x (only t s h) ≡ holder t x (only t s h)
+keeper-part t w h l s x = keeper-holder t x (only t s h) (locked-only t s h (locked t w h l)) (in-turn-only t s h (in-turn t h l))
 
 -- ---- a correct path passes
 
@@ -200,9 +195,17 @@ module _ (t : Trace) (m : ℕ) where
     lock-passes : kindOf t k ≡ acquire → lockStep t (only t (side m b) h) (only t (side m (not b)) h) k ≡ true
     unfolding lockStep
     lock-passes r =
+        let x = objectOf t k in
         let d = locked t w h l in
         let f = c .0 .free r in
-        true-both (open-part t w h l (side m b) k .1 (free-only t (side m b) h d k f)) (open-part t w h l (side m (not b)) k .1 (free-only t (side m (not b)) h d k f))
+        let own = keeper-part t w h l (side m b) x in
+        let other = keeper-part t w h l (side m (not b)) x in
+        let nobody : holder t x (only t (side m (not b)) h) ≡ 0 =
+        ⊎-elim (λ z. z) (λ z. clash (held-part t (side m (not b)) x h d (threadOf t k) z .1) (side-other m b (threadOf t k) s)) (free-only t (side m (not b)) h d k f) in
+        ⊎-elim
+        (λ z. or-right (eqb (keeper t x (only t (side m b) h)) (suc (threadOf t k))) (true-both (eq-eqb _ _ (own ∙ z)) (eq-eqb _ _ (other ∙ nobody))))
+        (λ z. rw (eq-eqb (keeper t x (only t (side m b) h)) (suc (threadOf t k)) (own ∙ z)))
+        (free-only t (side m b) h d k f)
 
   correct-passes : WellFormed t → (h τ : List ℕ) → Legal t h → CorrectFrom t h τ → Walk t m h τ
   unfolding stepIn
@@ -282,12 +285,20 @@ module _ (t : Trace) (m : ℕ) where
         sym (may-write t m b hs ho rs ro k (d .0)) ∙ e in
         both (pendingPass t x (λ j. sawOther t m (not b) j) ro) (pendingPass t x (λ j. sawNone t ho j) rs) (rw (d .1) at q)
 
-    lock-passed : WellFormed t → Legal t h → kindOf t k ≡ acquire → Free t hs k × Free t ho k
+    lock-passed : WellFormed t → Legal t h → kindOf t k ≡ acquire → Free t h k
     unfolding lockStep
     lock-passed w l r =
+        let x = objectOf t k in
+        let d = locked t w h l in
+        let own = keeper-part t w h l (side m b) x in
+        let other = keeper-part t w h l (side m (not b)) x in
         let q : lockStep t hs ho k ≡ true = sym (may-acquire t m b hs ho rs ro k r) ∙ e in
-        let z = both (isOpen (threadOf t k) (keeper t (objectOf t k) hs)) (isOpen (threadOf t k) (keeper t (objectOf t k) ho)) q in
-        (open-part t w h l (side m b) k .0 (z .0), open-part t w h l (side m (not b)) k .0 (z .1))
+        ⊎-elim
+        (λ p. inr (held-part t (side m b) x h d (threadOf t k) (sym own ∙ eqb-true _ _ p) .0))
+        (λ p.
+        let z = both (eqb (keeper t x hs) 0) (eqb (keeper t x ho) 0) p in
+        inl (nobody-parts t (side m b) (side m (not b)) (side-flip m b) h d x (sym own ∙ eqb-true _ _ (z .0)) (sym other ∙ eqb-true _ _ (z .1))))
+        (either-true (eqb (keeper t x hs) (suc (threadOf t k))) (eqb (keeper t x hs) 0 && eqb (keeper t x ho) 0) q)
 
     ahead-own : (x : ℕ) → does t write x k ≡ true → Ahead (k ∷ h) τ x b
     unfolding sawNone
@@ -322,7 +333,7 @@ module _ (t : Trace) (m : ℕ) where
           let soon : Pending t x k (only t (side m b) (k ∷ τ)) = rw s (nw, inl refl) in
           let a = i x b k soon (true-does t read x k r refl) in
           by-cases (sawOther t m b k) (λ p. a .1 p (read-passed r p)) (λ p. a .0 p ∙ f .1 r b s p);
-      free = λ r. let z = lock-passed w l r in free-parts t (side m b) (side m (not b)) (side-flip m b) h (locked t w h l) k (z .0) (z .1);
+      free = λ r. lock-passed w l r;
     }
 
   passes-correct : WellFormed t → (h τ : List ℕ) → Legal t h → ((x : ℕ) (c : Bool) → Ahead h τ x c) → Fit h τ → Walk t m h τ → CorrectFrom t h τ

@@ -1,8 +1,9 @@
 -- Locks in a correct reordering, and what is left of it when only some threads' events are kept.
 use Prim.Native.Nat.{ℕ, zero, suc, _-_, _≤_, _<_, zero-le}
 use native.Mathlib.Omega.{arith}
+use native.Mathlib.Nat.{suc-inj}
 use mathlib.Core.Path.{_≡_, refl, sym, _∙_, ap}
-use mathlib.Core.Logic.{_⊎_, inl, inr, ⊎-elim, _↔_}
+use mathlib.Core.Logic.{_≢_, _⊎_, inl, inr, _↔_}
 use mathlib.Core.Bool.{Bool, true, false, cond}
 use mathlib.Core.List.{List, [], _∷_, List·Memᴰ·head, List·Memᴰ·tail}
 use lib.ListN.{length}
@@ -72,9 +73,10 @@ abbrev pub sharing : (ℕ → Bool) → ℕ → ℕ → ℕ
 sharing s zero d = 0
 sharing s (suc c) d = cond (s c) d 0
 
-through-suc : (s : ℕ → Bool) (n c : ℕ) → through s n ≡ suc c → n ≡ suc c
+through-suc : (s : ℕ → Bool) (n c : ℕ) → through s n ≡ suc c → (n ≡ suc c) × (s c ≡ true)
 through-suc s zero c e = absurd (omega arith)
-through-suc s (suc d) c e = by-cases (s d) (λ p. rw p at e) (λ p. let z = rw p at e in absurd (omega arith))
+through-suc s (suc d) c e =
+    by-cases (s d) (λ p. let z : suc d ≡ suc c = rw p at e in (z, ap s (sym (suc-inj z)) ∙ p)) (λ p. let z = rw p at e in absurd (omega arith))
 
 module _ (t : Trace) (s : ℕ → Bool) where
   -- a lock that is nobody's or a thread's which is left out is nobody's
@@ -134,20 +136,22 @@ module _ (t : Trace) (s : ℕ → Bool) where
       ))
       (λ e. rw e (locked-only h (l .2)))
 
--- an acquire may come where it may in both parts of the events
-pub free-parts : (t : Trace) (s r : ℕ → Bool) → ((c : ℕ) → s c ≡ false → r c ≡ true) → (h : List ℕ) → Locked t h → (k : ℕ)
-    → Free t (only t s h) k → Free t (only t r h) k → Free t h k
-free-parts t s r f h l k p q = go (holder t (objectOf t k) h) refl
-  where
-    -- the holder is of one of the parts
-    part : (v : ℕ → Bool) (c : ℕ) → v c ≡ true → holder t (objectOf t k) h ≡ suc c → Free t (only t v h) k → Free t h k
-    part v c y e o =
-        let z : holder t (objectOf t k) (only t v h) ≡ suc c = lock-only t v (objectOf t k) h l .0 ∙ ap (through v) e ∙ rw y in
-        ⊎-elim (λ u. absurd (omega arith)) (λ u. inr (e ∙ sym z ∙ u)) o
+  -- who holds a lock in a part of the events holds it, and is of that part
+  pub held-part : (x : ℕ) (h : List ℕ) → Locked t h → (c : ℕ) → holder t x (only t s h) ≡ suc c → (holder t x h ≡ suc c) × (s c ≡ true)
+  held-part x h l c e = through-suc s (holder t x h) c (sym (lock-only x h l .0) ∙ e)
 
-    go : (n : ℕ) → holder t (objectOf t k) h ≡ n → Free t h k
-    go zero e = inl e
-    go (suc c) e = by-cases (s c) (λ y. part s c y e p) (λ y. part r c (f c y) e q)
+-- nobody holds a lock where nobody does in both parts of the events
+pub nobody-parts : (t : Trace) (s r : ℕ → Bool) → ((c : ℕ) → s c ≡ false → r c ≡ true) → (h : List ℕ) → Locked t h → (x : ℕ)
+    → holder t x (only t s h) ≡ 0 → holder t x (only t r h) ≡ 0 → holder t x h ≡ 0
+nobody-parts t s r f h l x p q = go (holder t x h) refl
+  where
+    -- a holder would be of one of the parts
+    part : (v : ℕ → Bool) (c : ℕ) → v c ≡ true → holder t x h ≡ suc c → holder t x (only t v h) ≢ 0
+    part v c y e z = let u : holder t x (only t v h) ≡ suc c = lock-only t v x h l .0 ∙ ap (through v) e ∙ rw y in let n : ⊥ = omega arith in n
+
+    go : (n : ℕ) → holder t x h ≡ n → holder t x h ≡ 0
+    go zero e = e
+    go (suc c) e = absurd (by-cases (s c) (λ y. part s c y e p) (λ y. part r c (f c y) e q))
 
 -- ---- in a correct reordering of a well-formed trace every release is by the holder
 
@@ -170,8 +174,7 @@ module _ (t : Trace) (w : WellFormed t) where
       let c = threadOf t k in
       let x = objectOf t k in
       let held : through (is c) (holder t x (before k)) ≡ suc c = ap (through (is c)) (w .given-back k (en .valid) r) ∙ rw (true-is c c refl) in
-      through-suc (is c) (holder t x h) c
-      (sym (lock-only t (is c) x h l .0) ∙ ap (holder t x) (en .next) ∙ lock-only t (is c) x (before k) (locked-before k (en .valid .bounded)) .0 ∙ held)
+      held-part t (is c) x h l c (ap (holder t x) (en .next) ∙ lock-only t (is c) x (before k) (locked-before k (en .valid .bounded)) .0 ∙ held) .0
 
   pub locked : (h : List ℕ) → Legal t h → Locked t h
   unfolding Locked

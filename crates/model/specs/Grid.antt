@@ -12,7 +12,7 @@ use Rattle.model.specs.Trace.{Trace, read, write, acquire, release, thre
 use Rattle.model.specs.Lists.{listed, only, is, but}
 use Rattle.model.specs.Observed.{observed}
 use Rattle.model.specs.Sections.{isLast}
-use Rattle.model.specs.Check.{isOpen, isSeen}
+use Rattle.model.specs.Check.{isSeen}
 
 -- the threads of one of the two lists: m alone (true), or every other (false)
 abbrev pub side : ℕ → Bool → ℕ → Bool
@@ -46,9 +46,10 @@ abbrev pub keeper : Trace → ℕ → List ℕ → ℕ
 keeper t x [] = 0
 keeper t x (k ∷ h) = cond (does t acquire x k || does t release x k) (cond (isLast t k) 0 (suc (threadOf t k))) (keeper t x h)
 
--- An acquired lock is held by another thread in neither list.
+-- An acquire may come where its own thread holds the lock already, or where nobody does in either list.
 unfoldable pub lockStep : Trace → List ℕ → List ℕ → ℕ → Bool
-lockStep t hs ho k = isOpen (threadOf t k) (keeper t (objectOf t k) hs) && isOpen (threadOf t k) (keeper t (objectOf t k) ho)
+lockStep t hs ho k =
+    eqb (keeper t (objectOf t k) hs) (suc (threadOf t k)) || (eqb (keeper t (objectOf t k) hs) 0 && eqb (keeper t (objectOf t k) ho) 0)
 
 unfoldable pub mayStep : Trace → ℕ → Bool → List ℕ → List ℕ → List ℕ → List ℕ → ℕ → Bool
 mayStep t m b hs ho rs ro k =

@@ -12,7 +12,6 @@ use Rattle.model.specs.Trace.{Trace, Valid, write, acquire, release, threadOf, 
 use Rattle.model.specs.Lists.{listed}
 use Rattle.model.specs.Observed.{lastWrite}
 use Rattle.model.specs.Sections.{isLast}
-use Rattle.model.specs.Check.{isOpen}
 use Rattle.model.specs.Grid.{pendingPass, keeper, passed}
 use Rattle.model.proofs.Merges.{passed-suc}
 use Rattle.steps.specs.Steps.{AllValid, fits}
@@ -45,20 +44,20 @@ back-end {f = f} {l} {n} {i} s h = let e : i ≡ 0 = omega arith in s .same ∙ 
 does-at : (t : Trace) (c x : ℕ) {k k′ : ℕ} {b v : Bool} → k ≡ k′ → b ≡ does t c x k → b ≡ v → does t c x k′ ≡ v
 does-at t c x e d z = ap (does t c x) (sym e) ∙ sym d ∙ z
 
--- a lock: the latest event on it decides
-module _ (t : Trace) (x c : ℕ) {l : List ℕ} {n i : ℕ} (s : Back (keeper t x) l n i) where
-  pub open-end : i ≤ 0 → true ≡ isOpen c (keeper t x (passed l n))
-  open-end h = rw (back-end s h)
+-- a lock: the latest event on it tells who holds it
+module _ (t : Trace) (x : ℕ) {l : List ℕ} {n i : ℕ} (s : Back (keeper t x) l n i) where
+  pub keeper-end : i ≤ 0 → 0 ≡ keeper t x (passed l n)
+  keeper-end h = sym (back-end s h)
 
   module _ (more : 0 < i) (w : n ≤ length l) (k : ℕ) (e : k ≡ getD l (i - 1) 0) (b : Bool) (d : b ≡ does t acquire x k || does t release x k) where
     on-at : (v : Bool) → b ≡ v → does t acquire x (getD l (i - 1) 0) || does t release x (getD l (i - 1) 0) ≡ v
     on-at v z = ap (λ (j : ℕ). does t acquire x j || does t release x j) (sym e) ∙ sym d ∙ z
 
-    pub open-here : b ≡ true → (r : Bool) → r ≡ isOpen c (cond (isLast t k) 0 (suc (threadOf t k))) → r ≡ isOpen c (keeper t x (passed l n))
-    open-here z r g = g ∙ sym (rw (now-back s more w, on-at true z, e))
+    pub keeper-here : b ≡ true → (r : ℕ) → r ≡ cond (isLast t k) 0 (suc (threadOf t k)) → r ≡ keeper t x (passed l n)
+    keeper-here z r g = g ∙ sym (rw (now-back s more w, on-at true z, e))
 
-    pub open-more : b ≡ false → Back (keeper t x) l n (i - 1)
-    open-more z = step-back s more w (rw (on-at false z))
+    pub keeper-more : b ≡ false → Back (keeper t x) l n (i - 1)
+    keeper-more z = step-back s more w (rw (on-at false z))
 
 -- a cell: its last write
 module _ (t : Trace) (x : ℕ) {l : List ℕ} {n i : ℕ} (s : Back (lastWrite t x) l n i) where

@@ -1,21 +1,20 @@
 -- One law for each way through the step tests.
 use Prim.Native.Nat.{ℕ, suc, _+_}
 use native.Mathlib.Omega.{arith}
-use native.Mathlib.Nat.{suc-inj}
 use native.Mathlib.Numerals.{add-one}
 use mathlib.Core.Path.{_≡_, sym, _∙_, ap}
 use mathlib.Core.Bool.{Bool, true, false, cond, _&&_, _||_, not}
 use mathlib.Core.List.{List}
 use lib.ListN.{getD, drop}
 use lib.Dec.{eqb}
-use borrow.Author.Tests.{eqb-true, eqb-false, eq-eqb, not-true, not-false, ne-eqb, lt-ltb}
+use borrow.Author.Tests.{eq-eqb, not-true, not-false, ne-eqb, lt-ltb}
 use Rattle.model.specs.Trace.{Trace, Valid, read, write, acquire, release, threadOf, kindOf, objectOf, does}
 use Rattle.model.specs.Lists.{listed, is, but}
 use Rattle.model.specs.Observed.{lastWrite, observed}
 use Rattle.model.specs.Sections.{isLast}
-use Rattle.model.specs.Check.{isOpen, isSeen}
+use Rattle.model.specs.Check.{isSeen}
 use Rattle.model.specs.Grid.{sawOther, sawNone, pendingPass, readStep, writeStep, keeper, lockStep, mayStep, passed, stepAt}
-use Rattle.model.proofs.Tests.{by-cases, does-true}
+use Rattle.model.proofs.Tests.{does-true}
 use Rattle.model.proofs.Histories.{observed-range}
 use Rattle.model.proofs.GridSteps.{may-read, may-write, may-acquire}
 use Rattle.links.specs.Links.{Released}
@@ -88,19 +87,15 @@ module _ (t : Trace) (x k : ℕ) (b : Bool) (d : b ≡ does t acquire x k) where
   pub on-release : b ≡ false → (r : Bool) → r ≡ does t release x k → r ≡ does t acquire x k || does t release x k
   on-release z r g = rw (← d, z) g
 
-module _ {t : Trace} {rel : List ℕ} (table : Released t rel) {k : ℕ} (v : Valid t k) (r : ℕ) (e : r ≡ getD rel k 0) (c : ℕ) where
+module _ {t : Trace} {rel : List ℕ} (table : Released t rel) {k : ℕ} (v : Valid t k) (r : ℕ) (e : r ≡ getD rel k 0) where
   last-is : isLast t k ≡ eqb r k
   last-is = released-last t table v ∙ ap (λ (j : ℕ). eqb j k) (sym e)
 
-  pub open-last : r ≡ k → true ≡ isOpen c (cond (isLast t k) 0 (suc (threadOf t k)))
-  open-last z = rw (last-is, eq-eqb r k z)
+  pub left-nobody : r ≡ k → 0 ≡ cond (isLast t k) 0 (suc (threadOf t k))
+  left-nobody z = rw (last-is, eq-eqb r k z)
 
-  pub open-own : (r ≡ k → ⊥) → (d : ℕ) → d ≡ threadOf t k → eqb d c ≡ isOpen c (cond (isLast t k) 0 (suc (threadOf t k)))
-  open-own ne d ed =
-      rw (last-is, ne-eqb r k ne, ne-eqb (suc (threadOf t k)) 0 (λ z. omega arith), ← ed)
-      (by-cases (eqb d c)
-      (λ z. rw (z, eq-eqb (suc d) (suc c) (ap suc (eqb-true _ _ z))))
-      (λ z. rw (z, ne-eqb (suc d) (suc c) (λ y. eqb-false d c z (suc-inj y)))))
+  pub left-own : (r ≡ k → ⊥) → (d c : ℕ) → d ≡ threadOf t k → c ≡ d → c + 1 ≡ cond (isLast t k) 0 (suc (threadOf t k))
+  left-own ne d c ed ec = rw (last-is, ne-eqb r k ne) (omega arith)
 
 -- ---- the three tests
 
@@ -125,16 +120,20 @@ module _ (t : Trace) (m : ℕ) (side : Bool) (ho rs ro : List ℕ) (k x : ℕ) (
   pub write-goes : not b ≡ false → (r : Bool) → r ≡ pendingPass t x (sawNone t ho) rs → r ≡ writeStep t m side ho rs ro k
   write-goes z r g = g ∙ (rw (not-false b z) at is-write)
 
-module _ (t : Trace) (hs ho : List ℕ) (k x : ℕ) (ex : x ≡ objectOf t k) (c : ℕ) (ec : c ≡ threadOf t k) (b : Bool) (d : b ≡ isOpen c (keeper t x hs)) where
-  is-lock : b && isOpen c (keeper t x ho) ≡ lockStep t hs ho k
+module _ (t : Trace) (hs ho : List ℕ) (k x : ℕ) (ex : x ≡ objectOf t k) (o : ℕ) (eo : o ≡ keeper t x hs) (d c : ℕ) (ed : d ≡ threadOf t k) (ec : c ≡ d) where
+  is-lock : eqb o (c + 1) || (eqb o 0 && eqb (keeper t x ho) 0) ≡ lockStep t hs ho k
   unfolding lockStep
-  is-lock = rw (d, ex, ec)
+  is-lock = let z : suc (threadOf t k) ≡ c + 1 = omega arith in rw (eo, ex, z)
 
-  pub lock-stops : not b ≡ true → false ≡ lockStep t hs ho k
-  lock-stops z = rw (not-true b z) at is-lock
+  pub lock-own : o ≡ c + 1 → true ≡ lockStep t hs ho k
+  lock-own z = rw (eq-eqb o (c + 1) z) at is-lock
 
-  pub lock-goes : not b ≡ false → (r : Bool) → r ≡ isOpen c (keeper t x ho) → r ≡ lockStep t hs ho k
-  lock-goes z r g = g ∙ (rw (not-false b z) at is-lock)
+  module _ (ne : o ≡ c + 1 → ⊥) where
+    pub lock-stops : (o ≡ 0 → ⊥) → false ≡ lockStep t hs ho k
+    lock-stops n = rw (ne-eqb o (c + 1) ne, ne-eqb o 0 n) at is-lock
+
+    pub lock-goes : (n : o ≡ 0) (r : ℕ) → r ≡ keeper t x ho → eqb r 0 ≡ lockStep t hs ho k
+    lock-goes n r g = rw (ne-eqb o (c + 1) ne, eq-eqb o 0 n, ← g) at is-lock
 
 -- ---- may_step
 

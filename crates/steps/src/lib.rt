@@ -9,7 +9,6 @@ ghost use Rattle.model.specs.Trace.{Valid, read, acquire, release, threadOf, ki
 ghost use Rattle.model.specs.Lists.{listed};
 ghost use Rattle.model.specs.Observed.{lastWrite};
 ghost use Rattle.model.specs.Sections.{isLast};
-ghost use Rattle.model.specs.Check.{isOpen};
 ghost use Rattle.model.specs.Grid.{sawOther, sawNone, pendingPass, readStep, writeStep, keeper, lockStep, passed, stepAt};
 ghost use Rattle.format.specs.Bytes.{trace};
 ghost use Rattle.links.specs.Links.{Released};
@@ -33,31 +32,31 @@ fn on_lock(ev: &[u8], k: usize, lock: usize) -> bool
     format::is_event(ev, k, Event::RELEASE, lock)
 }
 
-// May thread c acquire the lock on which event k is the latest? It may after a last release, which is linked to itself, and after an event of its own.
-fn leaves_open(ev: &[u8], released: &[u16], k: usize, c: u8) -> bool
+// Who holds the lock of event k after it: 0 for nobody, c + 1 for thread c. Its thread does, unless it is a last release, which is linked to itself.
+fn left_to(ev: &[u8], released: &[u16], k: usize) -> usize
     requires { ⌜ Released (trace (now ev)) (now released) × Valid (trace (now ev)) k ⌝ }
-    ensures { λ r. ⌜ r ≡ isOpen c (cond (isLast (trace (now (ev .entry))) k) 0 (suc (threadOf (trace (now (ev .entry))) k))) ⌝ }
+    ensures { λ r. ⌜ r ≡ cond (isLast (trace (now (ev .entry))) k) 0 (suc (threadOf (trace (now (ev .entry))) k)) ⌝ }
 {
     if wide(released[k]) == k {
-        return true;
+        return 0;
     }
-    format::thread_at(ev, k) == c
+    format::thread_at(ev, k) as usize + 1
 }
 
-// May thread c acquire the lock after the first events of a list? The latest event on it tells.
-fn lock_open(ev: &[u8], released: &[u16], list: &[u16], upto: usize, lock: usize, c: u8) -> bool
+// Who holds the lock after the first events of a list. The latest event on it tells.
+fn keeper(ev: &[u8], released: &[u16], list: &[u16], upto: usize, lock: usize) -> usize
     requires { ⌜ Released (trace (now ev)) (now released) × AllValid (trace (now ev)) (now list) × (upto ≤ length (now list)) ⌝ }
-    ensures { λ r. ⌜ r ≡ isOpen c (keeper (trace (now (ev .entry))) lock (passed (now (list .entry)) upto)) ⌝ }
+    ensures { λ r. ⌜ r ≡ keeper (trace (now (ev .entry))) lock (passed (now (list .entry)) upto) ⌝ }
 {
     let mut i = upto;
     while 0 < i {
         i -= 1;
         let k = wide(list[i]);
         if on_lock(ev, k, lock) {
-            return leaves_open(ev, released, k, c);
+            return left_to(ev, released, k);
         }
     }
-    true
+    0
 }
 
 // The last write of the cell among the first events of a list, or 0.
@@ -224,7 +223,7 @@ fn write_step(
     pending_own(ev, observed, own, i + 1, cell, other, j)
 }
 
-// An acquired lock is held by another thread in neither list.
+// An acquire may come where its own thread holds the lock already, or where nobody does in either list.
 fn lock_step(
     ev: &[u8],
     released: &[u16],
@@ -238,11 +237,14 @@ fn lock_step(
     ensures { λ r. ⌜ r ≡ lockStep (trace (now (ev .entry))) (passed (now (own .entry)) i) (passed (now (other .entry)) j) k ⌝ }
 {
     let lock = format::object_at(ev, k);
-    let c = format::thread_at(ev, k);
-    if !lock_open(ev, released, own, i, lock, c) {
+    let holder = keeper(ev, released, own, i, lock);
+    if holder == format::thread_at(ev, k) as usize + 1 {
+        return true;
+    }
+    if holder != 0 {
         return false;
     }
-    lock_open(ev, released, other, j, lock, c)
+    keeper(ev, released, other, j, lock) == 0
 }
 
 // May event i of its own list, the list `side`, come next, where j events of the other list were passed?

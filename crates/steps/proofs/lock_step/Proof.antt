@@ -1,4 +1,4 @@
-use Rattle.steps.proofs.StepLaws.{lock-stops, lock-goes}
+use Rattle.steps.proofs.StepLaws.{lock-own, lock-stops, lock-goes}
 use borrow.Author.Needs.{needs}
 use Rattle.steps.proofs.lock_step.Statement.{statement}
 use Rattle.steps.proofs.lock_step.Tie as tie
@@ -10,6 +10,9 @@ lock-step-spec =
     (λ c κs. search needs)
     (λ c κs. search needs)
     (λ c κs. search needs)
+    (λ c. search needs)
+    (λ c. search needs)
+    (λ c. search (lock-own, needs))
     (λ c. search (lock-stops, needs))
     (λ c κs. search needs)
     (λ c. search (lock-goes, needs)))
