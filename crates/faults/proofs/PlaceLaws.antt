@@ -12,8 +12,9 @@ use Rattle.model.specs.Observed.{lastWrite, observed}
 use Rattle.model.specs.Good.{Good, maxThread, maxObject, holder, Free}
 use Rattle.model.specs.Reordering.{Step}
 use Rattle.model.specs.Check.{PlaceFault, no-event, not-next, sees-otherwise, lock-held}
+use Rattle.links.specs.Links.{Observed}
 use Rattle.links.proofs.LinkFacts.{reads-observed}
-use Rattle.faults.specs.Passing.{Here, Observed, Knows, NextAnswer, Judged, AccessAnswer, PlaceAnswer}
+use Rattle.faults.specs.Passing.{Here, Knows, NextAnswer, Judged, AccessAnswer, PlaceAnswer}
 
 -- ---- the numbers of threads and objects
 

@@ -4,14 +4,13 @@ use mathlib.Core.Path.{_≡_}
 use mathlib.Core.Logic.{_≢_}
 use mathlib.Core.Bool.{Bool, true, false}
 use mathlib.Core.List.{List, _∷_, reverse}
-use lib.ListN.{length}
 use Rattle.model.specs.Trace.{Trace, Valid, threadOf}
 use Rattle.model.specs.Lists.{nearest, is}
 use Rattle.model.specs.Observed.{lastWrite}
 use Rattle.model.specs.Good.{Good, maxThread, maxObject, holder}
 use Rattle.model.specs.Reordering.{Enabled, Step, Correct}
 use Rattle.model.specs.Check.{PlaceFault}
-use Rattle.links.specs.Links.{previous, observedBy, Table}
+use Rattle.links.specs.Links.{Table}
 
 -- ---- what is asked of a caller
 
@@ -19,13 +18,6 @@ use Rattle.links.specs.Links.{previous, observedBy, Table}
 pub record Here (t : Trace) (k : ℕ) : Type 0 where
   pub good : Good t
   pub valid : Valid t k
-
--- for each event the one before it in its thread; for each read its observed write
-abbrev pub Previous : Trace → List ℕ → Type 0
-Previous t l = Table (previous t) (length t) l
-
-abbrev pub Observed : Trace → List ℕ → Type 0
-Observed t l = Table (observedBy t) (length t) l
 
 -- ---- what is kept
 

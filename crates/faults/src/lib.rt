@@ -8,8 +8,8 @@ ghost use Prim.Native.Nat.{_≤_};
 ghost use Rattle.model.specs.Trace.{threadOf, objectOf};
 ghost use Rattle.model.specs.Good.{Good, maxThread, maxObject};
 ghost use Rattle.format.specs.Bytes.{trace};
-ghost use Rattle.links.specs.Links.{Released};
-ghost use Rattle.faults.specs.Passing.{Here, Previous, Observed, NextAnswer, AccessAnswer, PlaceAnswer, Passed};
+ghost use Rattle.links.specs.Links.{Previous, Observed, Released};
+ghost use Rattle.faults.specs.Passing.{Here, NextAnswer, AccessAnswer, PlaceAnswer, Passed};
 
 const THREADS: usize = Thread::MAX as usize + 1;
 

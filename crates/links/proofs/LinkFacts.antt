@@ -16,7 +16,7 @@ use Rattle.model.specs.Cone.{Earlier, givesBack, matching}
 use Rattle.model.proofs.Tests.{by-cases, clash, both, is-true, true-is}
 use Rattle.model.proofs.Lists.{nearest-mem, mem-before}
 use Rattle.model.proofs.SectionsExact.{outermost-acquires, last-releases}
-use Rattle.model.proofs.ConeExact.{matching-valid}
+use Rattle.model.proofs.MatchingExact.{matching-valid}
 use Rattle.links.specs.Links.{previous, observedOr, observedBy, releaseOf, Released}
 
 -- ---- the nearest event

@@ -43,14 +43,20 @@ pub record Filled (f : ℕ → ℕ) (n : ℕ) (l l′ : List ℕ) : Type 0 where
   pub table : Table f n l′
   pub beyond : Beyond n l l′
 
--- a list that has the ends of sections for all events
+-- the three tables, each for all events of a trace
+abbrev pub Previous : Trace → List ℕ → Type 0
+Previous t prev = Table (previous t) (length t) prev
+
+abbrev pub Observed : Trace → List ℕ → Type 0
+Observed t obs = Table (observedBy t) (length t) obs
+
 abbrev pub Released : Trace → List ℕ → Type 0
 Released t rel = Table (releaseOf t) (length t) rel
 
 -- the links of a trace's events
 pub record Linked (t : Trace) (prev obs rel : List ℕ) : Type 0 where
-  pub earlier : Table (previous t) (length t) prev
-  pub seen : Table (observedBy t) (length t) obs
+  pub earlier : Previous t prev
+  pub seen : Observed t obs
   pub closing : Released t rel
 
 -- a good trace, and room for a table of the links of its first n events

@@ -10,8 +10,8 @@ use Rattle.bits.specs.Marks.{isMarked}
 use Rattle.model.specs.Trace.{Trace}
 use Rattle.model.specs.Good.{maxEvents}
 use Rattle.model.specs.Grid.{stepAt, after, orElse, path}
-use Rattle.links.specs.Links.{Released}
-use Rattle.steps.specs.Steps.{Seen, AllValid}
+use Rattle.links.specs.Links.{Observed, Released}
+use Rattle.steps.specs.Steps.{AllValid}
 
 -- the path from a place to the end
 unfoldable pub pathAt : Trace → ℕ → List ℕ → List ℕ → ℕ → ℕ → Option (List ℕ)
@@ -49,7 +49,7 @@ Sound t m p q area = (i j : ℕ) → i ≤ length p → j ≤ length q → isMar
 
 -- the observed writes, the ends of sections and the two lists, with a bit for each place and room for the path
 pub record Given (t : Trace) (obs rel p q area out : List ℕ) : Type 0 where
-  pub table : Seen t obs
+  pub table : Observed t obs
   pub released : Released t rel
   pub p-valid : AllValid t p
   pub q-valid : AllValid t q

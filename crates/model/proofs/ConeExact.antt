@@ -1,31 +1,24 @@
 -- The computed cone is the least set with the cone's rules.
 use Prim.Native.Nat.{ℕ, _≤_}
 use native.Mathlib.Omega.{arith}
-use mathlib.Core.Path.{_≡_, refl, ap}
-use mathlib.Core.Logic.{_≢_, _↔_}
+use mathlib.Core.Path.{_≡_, ap}
+use mathlib.Core.Logic.{_↔_}
 use mathlib.Core.Bool.{Bool, true, false, _&&_, not}
 use mathlib.Core.List.{List, reverse}
 use lib.ListN.{length}
 use lib.Dec.{eqb, ltb}
 use borrow.Author.Tests.{eqb-true, eq-eqb, ltb-true, lt-ltb, not-true}
 use Rattle.model.specs.Trace.{Trace, Valid, read, acquire, threadOf, kindOf}
-use Rattle.model.specs.Lists.{_∈_, numbers, upTo, keep}
+use Rattle.model.specs.Lists.{_∈_, upTo, keep}
 use Rattle.model.specs.Observed.{observed}
-use Rattle.model.specs.Sections.{isOutermost}
-use Rattle.model.specs.Cone.{InCone, Earlier, Outside, root, earlier, observes, closes, givesBack, matching}
+use Rattle.model.specs.Cone.{InCone, Earlier, Outside, root, earlier, observes, closes, matching}
 use Rattle.model.specs.Race.{Increasing}
 use Rattle.model.specs.Rounds.{brought, rounds, isEarlier, isRooted, isObserved, isExempt, isClosing, brings, cone}
 use Rattle.model.proofs.Tests.{by-cases, clash, both, true-both, or-right}
-use Rattle.model.proofs.Lists.{any-mem, mem-any, nearest-mem, mem-numbers, mem-reverse, reverse-mem, increasing-reverse}
+use Rattle.model.proofs.Lists.{any-mem, mem-any, mem-reverse, reverse-mem, increasing-reverse}
 use Rattle.model.proofs.Histories.{observed-range}
+use Rattle.model.proofs.MatchingExact.{matching-valid}
 use Rattle.model.proofs.LeastSet.{rounds-fixed, least-base, least-step, least-in}
-
-pub matching-valid : (t : Trace) (k : ℕ) → matching t k ≢ 0 → Valid t (matching t k)
-unfolding matching
-matching-valid t k ne =
-    by-cases (isOutermost t k)
-    (λ e. rw e (mem-numbers t _ (nearest-mem (λ j. givesBack t k j) (numbers t) (rw e at ne))))
-    (λ e. let z = rw e at ne in absurd (z refl))
 
 module _ (t : Trace) (R : List ℕ) where
   -- the cone of events of the trace has only such

@@ -21,8 +21,8 @@ pub mod Stability
 pub mod CheckExact
 -- 6
 pub mod LeastSet
-pub mod ConeExact
 pub mod MatchingExact
+pub mod ConeExact
 pub mod GridSteps
 pub mod Merges
 pub mod SearchExact

@@ -2,19 +2,19 @@
 use Prim.Native.Nat.{ℕ, zero, suc, _+_, _-_, _≤_, _<_}
 use native.Mathlib.Omega.{arith}
 use mathlib.Core.Path.{_≡_, refl, _∙_, ap}
-use mathlib.Core.Logic.{⊎-elim, _↔_}
+use mathlib.Core.Logic.{_≢_, ⊎-elim, _↔_}
 use mathlib.Core.Bool.{Bool, true, false, cond, _&&_}
 use lib.ListN.{length}
 use lib.Dec.{eqb, ltb}
 use borrow.Author.Tests.{eqb-true, eqb-false, eq-eqb, lt-ltb, le-ltb, ltb-true, ltb-false}
 use Rattle.model.specs.Trace.{Trace, Valid, acquire, release, threadOf, kindOf, objectOf, does}
-use Rattle.model.specs.Lists.{upTo, nearest}
+use Rattle.model.specs.Lists.{upTo, numbers, nearest}
 use Rattle.model.specs.Good.{holder, WellFormed}
 use Rattle.model.specs.Sections.{isOutermost, isLast}
 use Rattle.model.specs.Cone.{givesBack, matching}
 use Rattle.model.specs.Matching.{HeldUntil, HoldEnd, freed, never-freed}
 use Rattle.model.proofs.Tests.{by-cases, both, clash, true-does, does-true}
-use Rattle.model.proofs.Lists.{after, numbers-split, nearest-skip}
+use Rattle.model.proofs.Lists.{after, numbers-split, nearest-skip, nearest-mem, mem-numbers}
 use Rattle.model.proofs.Locks.{locked-before}
 use Rattle.model.proofs.SectionsExact.{after-release, outermost-acquires, last-releases}
 
@@ -28,6 +28,14 @@ module _ (t : Trace) (k : ℕ) where
   pub matching-after : (d : ℕ) → k + d ≡ length t → isOutermost t k ≡ true → matching t k ≡ nearest (givesBack t k) (after k d)
   unfolding matching givesBack
   matching-after d e o = rw o (ap (nearest (givesBack t k)) (numbers-split t d k e) ∙ nearest-skip (givesBack t k) k (after k d) (λ j l. rw (le-ltb k j l)))
+
+-- it is an event of the trace
+pub matching-valid : (t : Trace) (k : ℕ) → matching t k ≢ 0 → Valid t (matching t k)
+unfolding matching
+matching-valid t k ne =
+    by-cases (isOutermost t k)
+    (λ e. rw e (mem-numbers t _ (nearest-mem (λ j. givesBack t k j) (numbers t) (rw e at ne))))
+    (λ e. let z = rw e at ne in absurd (z refl))
 
 module _ (t : Trace) (w : WellFormed t) (k : ℕ) where
   abbrev lock : ℕ

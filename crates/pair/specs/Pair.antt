@@ -11,7 +11,7 @@ use Rattle.model.specs.Grid.{path}
 use Rattle.model.specs.Decision.{isConflicting}
 use Rattle.limits.specs.Limits.{areaBytes}
 use Rattle.bits.specs.Marks.{Clear}
-use Rattle.links.specs.Links.{observedBy, Table, Released, Linked}
+use Rattle.links.specs.Links.{Observed, Released, Linked}
 use Rattle.sides.specs.Sides.{flaggedOf}
 use Rattle.pair.specs.declared.Shown.{Shown}
 use Rattle.pair.specs.declared.Shown.the-variants.{Absent, Length}
@@ -41,7 +41,7 @@ pub record Ready (t : Trace) (prev obs rel list area : List ℕ) : Type 0 where
 -- what it goes by once the cone is flagged
 pub record Searching (t : Trace) (obs rel flags list area : List ℕ) : Type 0 where
   pub few : length t ≤ maxEvents
-  pub seen : Table (observedBy t) (length t) obs
+  pub seen : Observed t obs
   pub released : Released t rel
   pub flagged : length t < length flags
   pub room : length t ≤ length list

@@ -3,8 +3,7 @@ use Prim.Native.Nat.{ℕ}
 use mathlib.Core.List.{List}
 use Rattle.model.specs.Trace.{Trace, Valid}
 use Rattle.model.specs.Good.{Good}
-use Rattle.links.specs.Links.{Released}
-use Rattle.faults.specs.Passing.{Previous, Observed}
+use Rattle.links.specs.Links.{Previous, Observed, Released}
 
 -- a good trace, the links of its events, and two of them
 pub record Asked (t : Trace) (prev obs rel : List ℕ) (a b : ℕ) : Type 0 where

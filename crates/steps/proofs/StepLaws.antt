@@ -17,14 +17,14 @@ use Rattle.model.specs.Grid.{sawOther, sawNone, pendingPass, readStep, writeSte
 use Rattle.model.proofs.Tests.{does-true}
 use Rattle.model.proofs.Histories.{observed-range}
 use Rattle.model.proofs.GridSteps.{may-read, may-write, may-acquire}
-use Rattle.links.specs.Links.{Released}
+use Rattle.links.specs.Links.{Observed, Released}
 use Rattle.links.proofs.LinkFacts.{reads-observed, released-last}
-use Rattle.steps.specs.Steps.{Seen, Steps, fits}
+use Rattle.steps.specs.Steps.{Steps, fits}
 use Rattle.steps.proofs.ScanLaws.{valid-at}
 
 -- ---- what a read observed
 
-module _ {t : Trace} {obs : List ℕ} (table : Seen t obs) {k : ℕ} (v : Valid t k) where
+module _ {t : Trace} {obs : List ℕ} (table : Observed t obs) {k : ℕ} (v : Valid t k) where
   pub seen-is : kindOf t k ≡ read → getD obs k 0 ≡ observed t k
   seen-is r = table .is k (v .bounded) ∙ reads-observed t k r
 
@@ -73,7 +73,7 @@ module _ (t : Trace) (x k : ℕ) (b : Bool) (d : b ≡ does t read x k) where
     pub fits-side : (m : ℕ) (side : Bool) (r : Bool) → r ≡ sawOther t m side k → r ≡ fits t (sawOther t m side) x k
     fits-side m side r g = g ∙ sym (fits-read (sawOther t m side) z)
 
-    pub fits-none : {obs : List ℕ} → Seen t obs → Valid t k → (h : List ℕ) (r : Bool) → r ≡ listed (getD obs k 0) h → not r ≡ fits t (sawNone t h) x k
+    pub fits-none : {obs : List ℕ} → Observed t obs → Valid t k → (h : List ℕ) (r : Bool) → r ≡ listed (getD obs k 0) h → not r ≡ fits t (sawNone t h) x k
     unfolding sawNone
     fits-none table v h r g =
         ap not g ∙ ap (λ (o : ℕ). not (listed o h)) (seen-is table v (read-kind z)) ∙ sym (fits-read (sawNone t h) z)
@@ -104,7 +104,7 @@ module _ (t : Trace) (m : ℕ) (side : Bool) (ho : List ℕ) (k : ℕ) (b : Bool
   unfolding readStep
   read-free z = rw (← d, not-true b z)
 
-  pub read-last : not b ≡ false → {obs : List ℕ} → Seen t obs → Valid t k → kindOf t k ≡ read → (x : ℕ) → x ≡ objectOf t k → (r : ℕ) → r ≡ lastWrite t x ho
+  pub read-last : not b ≡ false → {obs : List ℕ} → Observed t obs → Valid t k → kindOf t k ≡ read → (x : ℕ) → x ≡ objectOf t k → (r : ℕ) → r ≡ lastWrite t x ho
       → eqb r (getD obs k 0) ≡ readStep t m side ho k
   unfolding readStep isSeen
   read-last z table v kind x ex r g = rw (← d, not-false b z, seen-is table v kind, g, ex)

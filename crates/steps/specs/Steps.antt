@@ -4,11 +4,7 @@ use mathlib.Core.Bool.{Bool, _||_, not}
 use mathlib.Core.List.{List}
 use lib.ListN.{length, getD}
 use Rattle.model.specs.Trace.{Trace, Valid, read, does}
-use Rattle.links.specs.Links.{observedBy, Table}
-
--- a list that gives each read its observed write
-abbrev pub Seen : Trace → List ℕ → Type 0
-Seen t obs = Table (observedBy t) (length t) obs
+use Rattle.links.specs.Links.{Observed}
 
 -- every number of a list is one of an event
 pub record AllValid (t : Trace) (l : List ℕ) : Type 0 where
@@ -16,7 +12,7 @@ pub record AllValid (t : Trace) (l : List ℕ) : Type 0 where
 
 -- the place of a step: event i of its own list is next, and j events of the other were passed
 pub record Steps (t : Trace) (obs own other : List ℕ) (i j : ℕ) : Type 0 where
-  pub table : Seen t obs
+  pub table : Observed t obs
   pub own-valid : AllValid t own
   pub other-valid : AllValid t other
   pub own-in : i < length own

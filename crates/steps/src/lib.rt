@@ -11,8 +11,8 @@ ghost use Rattle.model.specs.Observed.{lastWrite};
 ghost use Rattle.model.specs.Sections.{isLast};
 ghost use Rattle.model.specs.Grid.{sawOther, sawNone, pendingPass, readStep, writeStep, keeper, lockStep, passed, stepAt};
 ghost use Rattle.format.specs.Bytes.{trace};
-ghost use Rattle.links.specs.Links.{Released};
-ghost use Rattle.steps.specs.Steps.{Seen, AllValid, Steps, fits};
+ghost use Rattle.links.specs.Links.{Observed, Released};
+ghost use Rattle.steps.specs.Steps.{AllValid, Steps, fits};
 
 // An event number of a list as one that the bytes are read by.
 fn wide(k: u16) -> usize
@@ -92,7 +92,7 @@ fn among(list: &[u16], upto: usize, k: u16) -> bool
 
 // Did the read k observe a write of the list that is not the list `side`?
 fn saw_other(ev: &[u8], observed: &[u16], k: usize, moved: u8, side: bool) -> bool
-    requires { ⌜ Seen (trace (now ev)) (now observed) × Valid (trace (now ev)) k × (kindOf (trace (now ev)) k ≡ read) ⌝ }
+    requires { ⌜ Observed (trace (now ev)) (now observed) × Valid (trace (now ev)) k × (kindOf (trace (now ev)) k ≡ read) ⌝ }
     ensures { λ r. ⌜ r ≡ sawOther (trace (now (ev .entry))) moved side k ⌝ }
 {
     let o = wide(observed[k]);
@@ -108,7 +108,7 @@ fn saw_other(ev: &[u8], observed: &[u16], k: usize, moved: u8, side: bool) -> bo
 
 // Event k is no read of the cell, or it observed a write of the list that is not the list `side`.
 fn fits_other(ev: &[u8], observed: &[u16], k: usize, cell: usize, moved: u8, side: bool) -> bool
-    requires { ⌜ Seen (trace (now ev)) (now observed) × Valid (trace (now ev)) k ⌝ }
+    requires { ⌜ Observed (trace (now ev)) (now observed) × Valid (trace (now ev)) k ⌝ }
     ensures { λ r. ⌜ r ≡ fits (trace (now (ev .entry))) (sawOther (trace (now (ev .entry))) moved side) cell k ⌝ }
 {
     if !format::is_event(ev, k, Event::READ, cell) {
@@ -119,7 +119,7 @@ fn fits_other(ev: &[u8], observed: &[u16], k: usize, cell: usize, moved: u8, sid
 
 // Event k is no read of the cell, or it observed none of the first events of the other list.
 fn fits_own(ev: &[u8], observed: &[u16], k: usize, cell: usize, other: &[u16], upto: usize) -> bool
-    requires { ⌜ Seen (trace (now ev)) (now observed) × Valid (trace (now ev)) k × (upto ≤ length (now other)) ⌝ }
+    requires { ⌜ Observed (trace (now ev)) (now observed) × Valid (trace (now ev)) k × (upto ≤ length (now other)) ⌝ }
     ensures { λ r. ⌜ r ≡ fits (trace (now (ev .entry))) (sawNone (trace (now (ev .entry))) (passed (now (other .entry)) upto)) cell k ⌝ }
 {
     if !format::is_event(ev, k, Event::READ, cell) {
@@ -138,7 +138,7 @@ fn pending_other(
     moved: u8,
     side: bool,
 ) -> bool
-    requires { ⌜ Seen (trace (now ev)) (now observed) × AllValid (trace (now ev)) (now list) ⌝ }
+    requires { ⌜ Observed (trace (now ev)) (now observed) × AllValid (trace (now ev)) (now list) ⌝ }
     ensures { λ r. ⌜ r ≡ pendingPass (trace (now (ev .entry))) cell (sawOther (trace (now (ev .entry))) moved side) (drop from (now (list .entry))) ⌝ }
 {
     let mut i = from;
@@ -165,7 +165,7 @@ fn pending_own(
     other: &[u16],
     upto: usize,
 ) -> bool
-    requires { ⌜ Seen (trace (now ev)) (now observed) × AllValid (trace (now ev)) (now list) × (upto ≤ length (now other)) ⌝ }
+    requires { ⌜ Observed (trace (now ev)) (now observed) × AllValid (trace (now ev)) (now list) × (upto ≤ length (now other)) ⌝ }
     ensures { λ r. ⌜ r ≡ pendingPass (trace (now (ev .entry))) cell (sawNone (trace (now (ev .entry))) (passed (now (other .entry)) upto)) (drop from (now (list .entry))) ⌝ }
 {
     let mut i = from;
@@ -192,7 +192,7 @@ fn read_step(
     side: bool,
     k: usize,
 ) -> bool
-    requires { ⌜ Seen (trace (now ev)) (now observed) × AllValid (trace (now ev)) (now other) × (j ≤ length (now other)) × Valid (trace (now ev)) k × (kindOf (trace (now ev)) k ≡ read) ⌝ }
+    requires { ⌜ Observed (trace (now ev)) (now observed) × AllValid (trace (now ev)) (now other) × (j ≤ length (now other)) × Valid (trace (now ev)) k × (kindOf (trace (now ev)) k ≡ read) ⌝ }
     ensures { λ r. ⌜ r ≡ readStep (trace (now (ev .entry))) moved side (passed (now (other .entry)) j) k ⌝ }
 {
     if !saw_other(ev, observed, k, moved, side) {
