@@ -10,7 +10,7 @@ use borrow.Author.Tests.{eqb-true, eqb-false}
 use Rattle.model.specs.Trace.{Trace, Valid, threadOf}
 use Rattle.model.specs.Lists.{upTo, before, keep, nearest, is}
 use Rattle.model.specs.Good.{maxThread}
-use Rattle.model.specs.Reordering.{Enabled}
+use Rattle.model.specs.Reordering.{Next}
 use Rattle.model.proofs.Tests.{by-cases}
 use Rattle.model.proofs.Histories.{Legal, to-legal, beginning}
 use Rattle.links.specs.Links.{previous, Previous}
@@ -33,24 +33,24 @@ module _ (p : ℕ → Bool) where
   nearest-same : (m n : ℕ) → nearest p (upTo m) ≡ nearest p (upTo n) → keep p (upTo m) ≡ keep p (upTo n)
   nearest-same m n e = keep-nearest m ∙ ap (λ (i : ℕ). keep p (upTo i)) e ∙ sym (keep-nearest n)
 
--- ---- enabled events
+-- ---- the next event of a thread
 
 pub knows-legal : {t : Trace} {h last writes locks : List ℕ} → Knows t h last writes locks → Legal t h
 knows-legal {t} {h} w = rw (reverse-reverse h) at (to-legal t (reverse h) (w .correct))
 
 module _ (t : Trace) (h : List ℕ) where
-  enabled-last : (k : ℕ) → Enabled t h k → previous t k ≡ lastOf t h (threadOf t k)
+  next-last : (k : ℕ) → Next t h k → previous t k ≡ lastOf t h (threadOf t k)
   unfolding previous
-  enabled-last k e = sym (same-nearest (λ j. is (threadOf t k) (threadOf t j)) h (before k) (e .next))
+  next-last k e = sym (same-nearest (λ j. is (threadOf t k) (threadOf t j)) h (before k) (e .turn))
 
-  last-enabled : Legal t h → (k : ℕ) → Valid t k → previous t k ≡ lastOf t h (threadOf t k) → Enabled t h k
+  last-next : Legal t h → (k : ℕ) → Valid t k → previous t k ≡ lastOf t h (threadOf t k) → Next t h k
   unfolding previous
-  last-enabled l zero v e = absurd (let z = v .positive in omega arith)
-  last-enabled l (suc k) v e =
+  last-next l zero v e = absurd (let z = v .positive in omega arith)
+  last-next l (suc k) v e =
       let p : ℕ → Bool = λ j. is (threadOf t (suc k)) (threadOf t j) in
       let b = beginning t h l (threadOf t (suc k)) in
       let s : nearest p h ≡ nearest p (upTo (b .0)) = same-nearest p h (upTo (b .0)) (b .2) in
-      record { valid = v; next = b .2 ∙ nearest-same p (b .0) k (sym s ∙ sym e) }
+      record { valid = v; turn = b .2 ∙ nearest-same p (b .0) k (sym s ∙ sym e) }
 
 -- ---- the ways
 
@@ -61,6 +61,6 @@ module _ {t : Trace} {k : ℕ} (w : Here t k) where
       let same : (h writes locks : List ℕ) → Knows t h last writes locks → getD last c 0 ≡ lastOf t h (threadOf t k) =
       λ h writes locks q. q .threads .is c lc ∙ ap (lastOf t h) ec in
       record {
-        yes-next = λ h writes locks q e. last-enabled t h (knows-legal q) k (w .valid) (sym a ∙ eqb-true _ _ e ∙ same h writes locks q);
-        no-next = λ h writes locks q e en. eqb-false _ _ e (a ∙ enabled-last t h k en ∙ sym (same h writes locks q));
+        yes-next = λ h writes locks q e. last-next t h (knows-legal q) k (w .valid) (sym a ∙ eqb-true _ _ e ∙ same h writes locks q);
+        no-next = λ h writes locks q e en. eqb-false _ _ e (a ∙ next-last t h k en ∙ sym (same h writes locks q));
       }

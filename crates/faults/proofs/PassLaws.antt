@@ -87,7 +87,7 @@ module _ (t : Trace) (k : ℕ) (last writes locks : List ℕ) (c : ℕ) (ec : c 
 
         -- what a release leaves its lock with
         after : (h : List ℕ) → Legal t h → Step t h k → kindOf t k ≡ release → holder t x (k ∷ h) ≡ cond (isLast t k) 0 (suc (threadOf t k))
-        after h g s r = ap (λ (y : ℕ). holder t y (k ∷ h)) ex ∙ release-frees t (w .good .well-formed) h g k (s .enabled) r
+        after h g s r = ap (λ (y : ℕ). holder t y (k ∷ h)) ex ∙ release-frees t (w .good .well-formed) h g k (s .enabled .next) r
 
         pub pass-last : getD rel k 0 ≡ k → Passed t k last writes locks (set last c k) writes (set locks x 0)
         pass-last z =
@@ -101,7 +101,7 @@ module _ (t : Trace) (k : ℕ) (last writes locks : List ℕ) (c : ℕ) (ec : c 
             by-cases (eqb y x)
             (λ q.
             let here = after h g s r ∙ rw (last-is ∙ ne-eqb (getD rel k 0) k z) in
-            let there = ap (λ (v : ℕ). holder t v h) ex ∙ release-by-holder t (w .good .well-formed) h g k (s .enabled) r in
+            let there = ap (λ (v : ℕ). holder t v h) ex ∙ release-by-holder t (w .good .well-formed) h g k (s .enabled .next) r in
             rw (eqb-true y x q) (here ∙ sym there))
             (λ q. let ne : y ≢ x = eqb-false _ _ q in rw (other-object acquire y ne, other-object release y ne)))
 

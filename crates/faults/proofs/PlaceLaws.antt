@@ -50,7 +50,7 @@ module _ {t : Trace} {k : ℕ} (w : Here t k) {obs : List ℕ} (o : Observed t o
     pub sees-same : getD writes x 0 ≡ getD obs k 0 → AccessAnswer t writes locks k 0
     sees-same f =
         let r = is-read in
-        record { judged = λ h last q en. stays-clean (record { enabled = en; sees = λ z. sym (sees q) ∙ f ∙ links-to; free = λ z. absurd (omega arith) }) }
+        record { judged = λ h last q en. stays-clean (record { enabled = record { next = en }; sees = λ z. sym (sees q) ∙ f ∙ links-to; free = λ z. absurd (omega arith) }) }
 
     pub sees-other : (getD writes x 0 ≡ getD obs k 0 → ⊥) → AccessAnswer t writes locks k 23
     sees-other f = record { judged = λ h last q en. has-fault (omega arith) (sees-otherwise refl en is-read (λ z. f (sees q ∙ z ∙ sym links-to))) }
@@ -63,7 +63,7 @@ module _ {t : Trace} {k : ℕ} (w : Here t k) {obs : List ℕ} (o : Observed t o
 
       -- the lock is open to the event's thread
       may-take : ((h last : List ℕ) → Knows t h last writes locks → Free t h k) → AccessAnswer t writes locks k 0
-      may-take f = record { judged = λ h last q en. stays-clean (record { enabled = en; sees = λ z. absurd (unread (ed ∙ z)); free = λ z. f h last q }) }
+      may-take f = record { judged = λ h last q en. stays-clean (record { enabled = record { next = en }; sees = λ z. absurd (unread (ed ∙ z)); free = λ z. f h last q }) }
 
       pub lock-free : getD locks x 0 ≡ 0 → AccessAnswer t writes locks k 0
       lock-free f = may-take (λ h last q. inl (sym (held-by q) ∙ f))
@@ -80,7 +80,7 @@ module _ {t : Trace} {k : ℕ} (w : Here t k) {obs : List ℕ} (o : Observed t o
             }
 
     pub no-access : (d ≡ acquire → ⊥) → AccessAnswer t writes locks k 0
-    no-access f = record { judged = λ h last q en. stays-clean (record { enabled = en; sees = λ z. absurd (unread (ed ∙ z)); free = λ z. absurd (f (ed ∙ z)) }) }
+    no-access f = record { judged = λ h last q en. stays-clean (record { enabled = record { next = en }; sees = λ z. absurd (unread (ed ∙ z)); free = λ z. absurd (f (ed ∙ z)) }) }
 
 -- ---- any number
 

@@ -8,7 +8,7 @@ use Rattle.model.specs.Trace.{Trace, Valid, threadOf}
 use Rattle.model.specs.Lists.{nearest, is}
 use Rattle.model.specs.Observed.{lastWrite}
 use Rattle.model.specs.Good.{Good, maxThread, maxObject, holder}
-use Rattle.model.specs.Reordering.{Enabled, Step, Correct}
+use Rattle.model.specs.Reordering.{Next, Step, Correct}
 use Rattle.model.specs.Check.{PlaceFault}
 use Rattle.links.specs.Links.{Table}
 
@@ -36,8 +36,8 @@ pub record Knows (t : Trace) (h last writes locks : List ℕ) : Type 0 where
 
 -- is event k the next of its thread?
 pub record NextAnswer (t : Trace) (last : List ℕ) (k : ℕ) (r : Bool) : Type 0 where
-  pub yes-next : (h writes locks : List ℕ) → Knows t h last writes locks → r ≡ true → Enabled t h k
-  pub no-next : (h writes locks : List ℕ) → Knows t h last writes locks → r ≡ false → ¬ Enabled t h k
+  pub yes-next : (h writes locks : List ℕ) → Knows t h last writes locks → r ≡ true → Next t h k
+  pub no-next : (h writes locks : List ℕ) → Knows t h last writes locks → r ≡ false → ¬ Next t h k
 
 -- r is the fault of event k after the history h, 0 for none
 pub record Judged (t : Trace) (h : List ℕ) (k r : ℕ) : Type 0 where
@@ -46,7 +46,7 @@ pub record Judged (t : Trace) (h : List ℕ) (k r : ℕ) : Type 0 where
 
 -- of an event that is the next of its thread
 pub record AccessAnswer (t : Trace) (writes locks : List ℕ) (k r : ℕ) : Type 0 where
-  pub judged : (h last : List ℕ) → Knows t h last writes locks → Enabled t h k → Judged t h k r
+  pub judged : (h last : List ℕ) → Knows t h last writes locks → Next t h k → Judged t h k r
 
 -- of any number
 pub record PlaceAnswer (t : Trace) (last writes locks : List ℕ) (k r : ℕ) : Type 0 where

@@ -11,7 +11,7 @@ use Rattle.model.specs.Trace.{Trace, Event, Valid, write, acquire, relea
 use Rattle.model.specs.Lists.{_∈_, before, put, only, is}
 use Rattle.model.specs.Observed.{lastWrite, observed}
 use Rattle.model.specs.Good.{depth, holder, Free}
-use Rattle.model.specs.Reordering.{Enabled, EnabledAfter, Step, Correct}
+use Rattle.model.specs.Reordering.{Next, Enabled, EnabledAfter, Step, Correct}
 use Rattle.model.specs.Race.{Conflicting}
 use Rattle.model.specs.Extension.{Extension}
 use Rattle.model.proofs.Lists.{mem-before}
@@ -72,14 +72,17 @@ module _ (u v : Trace) (n : ℕ) (same : Agree u v n) where
   unfolding observed
   observed-agree k p = lastWrite-agree (objectOf u k) (before k) (within-before n k p) ∙ ap (λ (x : ℕ). lastWrite v x (before k)) (same-object k p)
 
-  enabled-agree : (h : List ℕ) (k : ℕ) → Within n h → k ≤ n → Valid v k → Enabled u h k → Enabled v h k
-  enabled-agree h k w p q st = record {
+  next-agree : (h : List ℕ) (k : ℕ) → Within n h → k ≤ n → Valid v k → Next u h k → Next v h k
+  next-agree h k w p q st = record {
     valid = q;
-    next =
+    turn =
         let c = threadOf v k in
         let e = same-thread k p in
-        sym (only-agree (is c) h w) ∙ (rw e at (st .next)) ∙ only-agree (is c) (before k) (within-before n k p);
+        sym (only-agree (is c) h w) ∙ (rw e at (st .turn)) ∙ only-agree (is c) (before k) (within-before n k p);
   }
+
+  enabled-agree : (h : List ℕ) (k : ℕ) → Within n h → k ≤ n → Valid v k → Enabled u h k → Enabled v h k
+  enabled-agree h k w p q e = record { next = next-agree h k w p q (e .next) }
 
   free-agree : (h : List ℕ) (k : ℕ) → Within n h → k ≤ n → Free u h k → Free v h k
   free-agree h k w p f =
@@ -125,7 +128,7 @@ module _ (t t′ : Trace) (long : Extension t t′) where
   pub extended-next : (ρ : List ℕ) → Correct t ρ → (k : ℕ) → EnabledAfter t ρ k → EnabledAfter t′ ρ k
   extended-next ρ c k e =
       enabled-agree t t′ (length t) extension-agree (reverse ρ) k
-      (λ j m. legal-valid t (reverse ρ) (to-legal t ρ c) j m .bounded) (e .valid .bounded) (extended-valid k (e .valid)) e
+      (λ j m. legal-valid t (reverse ρ) (to-legal t ρ c) j m .bounded) (e .next .valid .bounded) (extended-valid k (e .next .valid)) e
 
   -- a conflicting pair stays one
   pub extended-conflicting : (a b : ℕ) → Conflicting t a b → Conflicting t′ a b

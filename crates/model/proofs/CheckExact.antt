@@ -11,7 +11,7 @@ use borrow.Author.Tests.{eqb-true, eq-eqb, ne-eqb, leb-true, le-leb, not-true}
 use Rattle.model.specs.Trace.{Trace, Valid, read, acquire, threadOf, kindOf}
 use Rattle.model.specs.Lists.{own, before}
 use Rattle.model.specs.Good.{Free}
-use Rattle.model.specs.Reordering.{Enabled, Sees, Step, CorrectFrom, EnabledAfter, BringsBoth}
+use Rattle.model.specs.Reordering.{Next, Sees, Step, CorrectFrom, EnabledAfter, BringsBoth}
 use Rattle.model.specs.Check.{PlaceFault, no-event, not-next, sees-otherwise, lock-held, CheckAnswer, accepted, first-fault, lower-not-enabled, higher-not-enabled, sameList, isValid, isNext, isSeen, isOpen, isFree, placeFault, firstOf, faultFrom, isEnabled, check}
 use Rattle.model.proofs.Tests.{by-cases, both, true-both, either-true, true-either, not-both, both-not, false-test, test-false}
 
@@ -50,13 +50,13 @@ module _ (t : Trace) where
   true-valid k v = true-both (le-leb 1 k (v .positive)) (le-leb k (length t) (v .bounded))
 
   module _ (h : List ℕ) (k : ℕ) where
-    next-true : isNext t h k ≡ true → Valid t k → Enabled t h k
+    next-true : isNext t h k ≡ true → Valid t k → Next t h k
     unfolding isNext
-    next-true e v = record { valid = v; next = same-eq _ _ e }
+    next-true e v = record { valid = v; turn = same-eq _ _ e }
 
-    true-next : Enabled t h k → isNext t h k ≡ true
+    true-next : Next t h k → isNext t h k ≡ true
     unfolding isNext
-    true-next en = rw (en .next) (same-refl (own t (threadOf t k) (before k)))
+    true-next en = rw (en .turn) (same-refl (own t (threadOf t k) (before k)))
 
     pub seen-true : isSeen t h k ≡ true → Sees t h k
     unfolding isSeen
@@ -80,8 +80,8 @@ module _ (t : Trace) where
     unfolding placeFault
     step-clean s =
         rw (
-          true-valid k (s .enabled .valid),
-          true-next (s .enabled),
+          true-valid k (s .enabled .next .valid),
+          true-next (s .enabled .next),
           both-not (eqb (kindOf t k) read) (isSeen t h k) (λ e. true-seen (s .sees (eqb-true _ _ e))),
           both-not (eqb (kindOf t k) acquire) (isFree t h k) (λ e. true-free (s .free (eqb-true _ _ e))),
         )
@@ -105,7 +105,7 @@ module _ (t : Trace) where
         let x = both (eqb (kindOf t k) acquire) (not (isFree t h k)) f in
         inr (lock-held (rw (v, n, s, f)) en (eqb-true _ _ (x .0)) (test-false true-free (not-true _ (x .1)))))
         (λ f. inl (record {
-          enabled = en;
+          enabled = record { next = en };
           sees = λ r. seen-true (not-both (eqb (kindOf t k) read) (isSeen t h k) s (eq-eqb _ _ r));
           free = λ r. free-true (not-both (eqb (kindOf t k) acquire) (isFree t h k) f (eq-eqb _ _ r));
         }))))
@@ -161,11 +161,11 @@ module _ (t : Trace) where
 
   enabled-true : (ρ : List ℕ) (k : ℕ) → isEnabled t ρ k ≡ true → EnabledAfter t ρ k
   unfolding isEnabled
-  enabled-true ρ k e = let p = both (isValid t k) (isNext t (reverse ρ) k) e in next-true (reverse ρ) k (p .1) (valid-true k (p .0))
+  enabled-true ρ k e = let p = both (isValid t k) (isNext t (reverse ρ) k) e in record { next = next-true (reverse ρ) k (p .1) (valid-true k (p .0)) }
 
   true-enabled : (ρ : List ℕ) (k : ℕ) → EnabledAfter t ρ k → isEnabled t ρ k ≡ true
   unfolding isEnabled
-  true-enabled ρ k e = true-both (true-valid k (e .valid)) (true-next (reverse ρ) k e)
+  true-enabled ρ k e = true-both (true-valid k (e .next .valid)) (true-next (reverse ρ) k (e .next))
 
   module _ (a b : ℕ) (ρ : List ℕ) where
     check-judged : CheckAnswer t a b ρ (check t a b ρ)

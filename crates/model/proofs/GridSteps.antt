@@ -11,7 +11,7 @@ use Rattle.model.specs.Trace.{Trace, read, write, acquire, threadOf, kin
 use Rattle.model.specs.Lists.{_∈_, listed, only, is}
 use Rattle.model.specs.Observed.{lastWrite, observed}
 use Rattle.model.specs.Good.{holder, Free, WellFormed}
-use Rattle.model.specs.Reordering.{Enabled, Sees, Step, Correct, CorrectFrom}
+use Rattle.model.specs.Reordering.{Next, Sees, Step, Correct, CorrectFrom}
 use Rattle.model.specs.Grid.{side, sawOther, sawNone, pendingPass, readStep, writeStep, keeper, lockStep, mayStep}
 use Rattle.model.proofs.Tests.{by-cases, in-cons, clash, both, true-both, either-true, or-right, is-true, is-false, but-true, true-but, false-but, false-is, does-true, true-does, false-does}
 use Rattle.model.proofs.Lists.{mem-only, mem-listed, listed-mem}
@@ -148,7 +148,7 @@ module _ (t : Trace) (m : ℕ) where
       (λ e.
       by-cases (does t write x f)
       (λ w.
-      let v = c .0 .enabled .valid .positive in
+      let v = c .0 .enabled .next .valid .positive in
       let nz : f ≢ 0 = omega arith in
       sees-b b x j (f ∷ h) τ (c .1) (rw w nz) (rw w (side-back m b (threadOf t f) e)) (rw e at s) r)
       (λ w. sees-b b x j (f ∷ h) τ (c .1) (rw w ne) (rw w p) (rw e at s) r))
@@ -160,7 +160,7 @@ module _ (t : Trace) (m : ℕ) where
       in-cons n
       (λ e. ne (read-sees t x j f h (c .0) e r ∙ q))
       (λ u.
-      let ne′ : lastWrite t x (f ∷ h) ≢ o = by-cases (does t write x f) (λ w. rw w (λ z. enabled-out t h f (c .0 .enabled) (Memᴰ·cast z i))) (λ w. rw w ne) in
+      let ne′ : lastWrite t x (f ∷ h) ≢ o = by-cases (does t write x f) (λ w. rw w (λ z. enabled-out t h f (c .0 .enabled .next) (Memᴰ·cast z i))) (λ w. rw w ne) in
       seen-no-more x o j (f ∷ h) τ (c .1) (List·Memᴰ·tail i) ne′ u r q)
 
   module _ (w : WellFormed t) (h : List ℕ) (k : ℕ) (τ : List ℕ) (l : Legal t h) (c : CorrectFrom t h (k ∷ τ)) (b : Bool) (s : side m b (threadOf t k) ≡ true) where
@@ -177,7 +177,7 @@ module _ (t : Trace) (m : ℕ) where
     write-passes r =
         let x = objectOf t k in
         let wk : does t write x k ≡ true = true-does t write x k r refl in
-        let v = c .0 .enabled .valid .positive in
+        let v = c .0 .enabled .next .valid .positive in
         let nz : k ≢ 0 = omega arith in
         true-both
         (pending-intro t x _ (only t (side m (not b)) τ) (λ j u rj.
@@ -187,7 +187,7 @@ module _ (t : Trace) (m : ℕ) where
         by-cases (listed (observed t j) (only t (side m (not b)) h))
         (λ q.
         let n : observed t j ∈ h = mem-only t (side m (not b)) (observed t j) h (listed-mem (observed t j) (only t (side m (not b)) h) q) .0 in
-        let ne : k ≢ observed t j = λ z. enabled-out t h k (c .0 .enabled) (Memᴰ·cast z n) in
+        let ne : k ≢ observed t j = λ z. enabled-out t h k (c .0 .enabled .next) (Memᴰ·cast z n) in
         let i : j ∈ τ = mem-only t (side m b) j τ (pending-mem t x j (only t (side m b) τ) u) .0 in
         absurd (seen-no-more x (observed t j) j (k ∷ h) τ (c .1) (List·Memᴰ·tail n) (rw wk ne) i rj refl))
         (λ q. rw q)))
@@ -235,11 +235,11 @@ module _ (t : Trace) (m : ℕ) where
       → (sawOther t m b j ≡ false → lastWrite t x h ≡ lastWrite t x (only t (side m b) h))
       × (sawOther t m b j ≡ true → lastWrite t x (only t (side m (not b)) h) ≡ observed t j → lastWrite t x h ≡ observed t j)
 
-  -- each event is enabled in its turn, and its own list gives it what it observed there
+  -- each event is the next of its thread in its turn, and its own list gives it what it observed there
   abbrev pub Fit : List ℕ → List ℕ → Type 0
   Fit h [] = Unit {0}
   Fit h (k ∷ τ) =
-      Enabled t h k
+      Next t h k
       × (kindOf t k ≡ read → (b : Bool) → side m b (threadOf t k) ≡ true → sawOther t m b k ≡ false → Sees t (only t (side m b) h) k)
       × Fit (k ∷ h) τ
 
@@ -326,7 +326,7 @@ module _ (t : Trace) (m : ℕ) where
 
     passed-step : WellFormed t → Legal t h → ((x : ℕ) (c : Bool) → Ahead h (k ∷ τ) x c) → Fit h (k ∷ τ) → Step t h k
     passed-step w l i f = record {
-      enabled = f .0;
+      enabled = record { next = f .0 };
       sees = λ r.
           let x = objectOf t k in
           let nw : does t write x k ≡ false = false-does t write x k (omega arith) in

@@ -11,7 +11,7 @@ use borrow.Author.Tests.{leb-true, leb-false}
 use Rattle.model.specs.Trace.{Trace, Valid, read, write, threadOf, kindOf, objectOf, does}
 use Rattle.model.specs.Lists.{_∈_, upTo, before, keep, own, is}
 use Rattle.model.specs.Observed.{lastWrite, observed}
-use Rattle.model.specs.Reordering.{Enabled, Sees, Step, Correct, CorrectFrom}
+use Rattle.model.specs.Reordering.{Next, Enabled, Sees, Step, Correct, CorrectFrom}
 use Rattle.model.specs.Race.{Increasing}
 use Rattle.model.proofs.Tests.{by-cases, in-cons, is-true, true-is, false-is}
 use Rattle.model.proofs.Lists.{nearest-mem, nearest-kept, keep-reverse, mem-own, own-mem, upTo-mem, mem-upTo, mem-before, before-mem, increasing-reverse}
@@ -38,7 +38,7 @@ of-legal t h l = (legal-correct t [] (reverse h) (rw (reverse-reverse h) l)) .0
 module _ (t : Trace) where
   pub legal-valid : (h : List ℕ) → Legal t h → (k : ℕ) → k ∈ h → Valid t k
   legal-valid [] l k m = absurd (List·Memᴰ·not-nil m)
-  legal-valid (j ∷ h) l k m = in-cons m (λ e. rw e (l .0 .enabled .valid)) (λ n. legal-valid h (l .1) k n)
+  legal-valid (j ∷ h) l k m = in-cons m (λ e. rw e (l .0 .enabled .next .valid)) (λ n. legal-valid h (l .1) k n)
 
   -- a thread's events up to one of its own
   own-here : (c k : ℕ) → 1 ≤ k → threadOf t k ≡ c → own t c (upTo k) ≡ k ∷ own t c (before k)
@@ -53,8 +53,8 @@ module _ (t : Trace) where
       by-cases (is c (threadOf t k))
       (λ e.
       let p : threadOf t k ≡ c = is-true c (threadOf t k) e in
-      let v = l .0 .enabled .valid in
-      let n : own t c h ≡ own t c (before k) = rw p at (l .0 .enabled .next) in
+      let v = l .0 .enabled .next .valid in
+      let n : own t c h ≡ own t c (before k) = rw p at (l .0 .enabled .next .turn) in
       (k, v .bounded, rw e (ap (λ (x : List ℕ). k ∷ x) n ∙ sym (own-here c k (v .positive) p))))
       (λ e. (ih .0, ih .1, rw e (ih .2)))
 
@@ -77,10 +77,10 @@ module _ (t : Trace) where
       rw (false-is c (threadOf t (suc a)) (f (suc a) (omega arith) (omega arith))) (quiet c m a q (λ k u v. f k u (omega arith))))
       (λ e. let q = leb-false m a e in let z : m ≡ suc a = omega arith in rw z refl)
 
-  -- a is enabled after a legal history that lacks it and has all earlier events of its thread
-  pub enabled-by : (h : List ℕ) → Legal t h → (a : ℕ) → Valid t a → ¬ (a ∈ h) → ((k : ℕ) → 1 ≤ k → k < a → threadOf t k ≡ threadOf t a → k ∈ h) → Enabled t h a
-  enabled-by h l zero v out all = absurd (let z = v .positive in omega arith)
-  enabled-by h l (suc a) v out all =
+  -- after a legal history that lacks a and has all earlier events of its thread a is next, and enabled
+  next-by : (h : List ℕ) → Legal t h → (a : ℕ) → Valid t a → ¬ (a ∈ h) → ((k : ℕ) → 1 ≤ k → k < a → threadOf t k ≡ threadOf t a → k ∈ h) → Next t h a
+  next-by h l zero v out all = absurd (let z = v .positive in omega arith)
+  next-by h l (suc a) v out all =
       let c = threadOf t (suc a) in
       let b = beginning h l c in
       let m = b .0 in
@@ -90,23 +90,26 @@ module _ (t : Trace) where
       (λ e. leb-false (suc a) m e) in
       record {
         valid = v;
-        next = b .2 ∙ quiet c m a (omega arith) (λ k u w e.
+        turn = b .2 ∙ quiet c m a (omega arith) (λ k u w e.
             let x : k ∈ own t c h = own-mem t c (all k (omega arith) (omega arith) e) e in
             let y = mem-upTo m k (mem-own t c k (upTo m) (rw (b .2) at x) .0) in
             let z : ⊥ = omega arith in z);
       }
 
-  -- the members of an enabled event's thread are the events before it
-  pub enabled-mem : (h : List ℕ) (a : ℕ) → Enabled t h a → (k : ℕ) → k ∈ h → threadOf t k ≡ threadOf t a → (1 ≤ k) × (k < a)
+  pub enabled-by : (h : List ℕ) → Legal t h → (a : ℕ) → Valid t a → ¬ (a ∈ h) → ((k : ℕ) → 1 ≤ k → k < a → threadOf t k ≡ threadOf t a → k ∈ h) → Enabled t h a
+  enabled-by h l a v out all = record { next = next-by h l a v out all }
+
+  -- the members of a next event's thread are the events before it
+  pub enabled-mem : (h : List ℕ) (a : ℕ) → Next t h a → (k : ℕ) → k ∈ h → threadOf t k ≡ threadOf t a → (1 ≤ k) × (k < a)
   enabled-mem h a e k m p =
       let x : k ∈ own t (threadOf t a) h = own-mem t (threadOf t a) m p in
-      mem-before a k (mem-own t (threadOf t a) k (before a) (rw (e .next) at x) .0)
+      mem-before a k (mem-own t (threadOf t a) k (before a) (rw (e .turn) at x) .0)
 
-  pub mem-enabled : (h : List ℕ) (a : ℕ) → Enabled t h a → (k : ℕ) → 1 ≤ k → k < a → threadOf t k ≡ threadOf t a → k ∈ h
-  mem-enabled h a e k p q r = mem-own t (threadOf t a) k h (rw (e .next) (own-mem t (threadOf t a) (before-mem a k p q) r)) .0
+  pub mem-enabled : (h : List ℕ) (a : ℕ) → Next t h a → (k : ℕ) → 1 ≤ k → k < a → threadOf t k ≡ threadOf t a → k ∈ h
+  mem-enabled h a e k p q r = mem-own t (threadOf t a) k h (rw (e .turn) (own-mem t (threadOf t a) (before-mem a k p q) r)) .0
 
   -- so it is not in the history
-  pub enabled-out : (h : List ℕ) (a : ℕ) → Enabled t h a → ¬ (a ∈ h)
+  pub enabled-out : (h : List ℕ) (a : ℕ) → Next t h a → ¬ (a ∈ h)
   enabled-out h a e m = let z = enabled-mem h a e a m refl in omega arith
 
   -- ---- reads

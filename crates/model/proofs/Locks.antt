@@ -13,7 +13,7 @@ use Rattle.model.specs.Trace.{Trace, Valid, read, acquire, release, thre
 use Rattle.model.specs.Lists.{_∈_, upTo, before, only, is}
 use Rattle.model.specs.Observed.{observed}
 use Rattle.model.specs.Good.{depth, holder, Free, Held, WellFormed}
-use Rattle.model.specs.Reordering.{Enabled, Sees}
+use Rattle.model.specs.Reordering.{Next, Sees}
 use Rattle.model.proofs.Tests.{by-cases, does-true, true-is}
 use Rattle.model.proofs.Lists.{own-only}
 use Rattle.model.proofs.Histories.{Legal, lastWrite-kept}
@@ -169,17 +169,17 @@ module _ (t : Trace) (w : WellFormed t) where
   locked-before (suc m) p = locked-upTo m (omega arith)
 
   -- whether a thread holds a lock is told by its own events
-  pub held-next : (h : List ℕ) → Locked t h → (k : ℕ) → Enabled t h k → kindOf t k ≡ release → Held t h k
+  pub held-next : (h : List ℕ) → Locked t h → (k : ℕ) → Next t h k → kindOf t k ≡ release → Held t h k
   held-next h l k en r =
       let c = threadOf t k in
       let x = objectOf t k in
       let held : through (is c) (holder t x (before k)) ≡ suc c = ap (through (is c)) (w .given-back k (en .valid) r) ∙ rw (true-is c c refl) in
-      held-part t (is c) x h l c (ap (holder t x) (en .next) ∙ lock-only t (is c) x (before k) (locked-before k (en .valid .bounded)) .0 ∙ held) .0
+      held-part t (is c) x h l c (ap (holder t x) (en .turn) ∙ lock-only t (is c) x (before k) (locked-before k (en .valid .bounded)) .0 ∙ held) .0
 
   pub locked : (h : List ℕ) → Legal t h → Locked t h
   unfolding Locked
   locked [] l = tt
-  locked (k ∷ h) l = let ih = locked h (l .1) in (l .0 .free, held-next h ih k (l .0 .enabled), ih)
+  locked (k ∷ h) l = let ih = locked h (l .1) in (l .0 .free, held-next h ih k (l .0 .enabled .next), ih)
 
 -- what is left when only the events of a set of threads are kept that wrote all they read
 module _ (t : Trace) (s : ℕ → Bool) where
@@ -194,7 +194,7 @@ module _ (t : Trace) (s : ℕ → Bool) where
       by-cases (s (threadOf t k))
       (λ e. rw e (
         record {
-          enabled = record { valid = st .enabled .valid; next = own-only t s (threadOf t k) e h ∙ st .enabled .next };
+          enabled = let n = st .enabled .next in record { next = record { valid = n .valid; turn = own-only t s (threadOf t k) e h ∙ n .turn } };
           sees = λ r. sees-only (st .sees r) (f k (List·Memᴰ·head refl) e r);
           free = λ r. free-only t s h (d .2) k (st .free r);
         },

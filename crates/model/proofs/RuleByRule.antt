@@ -53,7 +53,7 @@ module _ (t : Trace) where
     correct-words : CorrectReordering t ρ
     correct-words = record {
       events = valid-in;
-      once = λ σ k s m. enabled-out t (reverse σ) k (at-place σ k s .enabled) (reverse-mem m);
+      once = λ σ k s m. enabled-out t (reverse σ) k (at-place σ k s .enabled .next) (reverse-mem m);
       beginnings = begins;
       locks = λ σ k s. at-place σ k s .free;
       reads = λ σ k s r ne. at-place σ k s .sees r;
@@ -91,7 +91,7 @@ module _ (t : Trace) where
         let s : StandsAfter ρ σ k = (τ, e) in
         let next = words-from τ (σ ++ (k ∷ [])) (e ∙ sym (append-assoc σ (k ∷ []) τ)) in (
           record {
-            enabled = record { valid = w .events k (rw e (Memᴰ·append-right σ (List·Memᴰ·head refl))); next = next-at σ k s };
+            enabled = record { next = record { valid = w .events k (rw e (Memᴰ·append-right σ (List·Memᴰ·head refl))); turn = next-at σ k s } };
             sees = sees-at σ k s;
             free = w .locks σ k s;
           },
@@ -106,9 +106,9 @@ module _ (t : Trace) where
   pub enabled-in-words : (ρ : List ℕ) → Correct t ρ → (k : ℕ) → EnabledAfter t ρ k ↔ (Valid t k × ¬ (k ∈ ρ) × ((j : ℕ) → Earlier t j k → j ∈ ρ))
   enabled-in-words ρ c k = (
     (λ e. (
-      e .valid,
-      (λ m. enabled-out t (reverse ρ) k e (reverse-mem m)),
-      (λ j x. mem-reverse j ρ (mem-enabled t (reverse ρ) k e j (x .first) (x .less) (x .thread))),
+      e .next .valid,
+      (λ m. enabled-out t (reverse ρ) k (e .next) (reverse-mem m)),
+      (λ j x. mem-reverse j ρ (mem-enabled t (reverse ρ) k (e .next) j (x .first) (x .less) (x .thread))),
     )),
     (λ x.
         enabled-by t (reverse ρ) (to-legal t ρ c) k (x .0) (λ m. x .1 (mem-reverse k ρ m))
@@ -123,4 +123,4 @@ module _ (t : Trace) where
       go zero p = tt
       go (suc m) p =
           let v : Valid t (suc m) = record { positive = omega arith; bounded = p } in
-          (record { enabled = record { valid = v; next = refl }; sees = λ r. unfold observed in refl; free = w .taken-free (suc m) v }, go m (omega arith))
+          (record { enabled = record { next = record { valid = v; turn = refl } }; sees = λ r. unfold observed in refl; free = w .taken-free (suc m) v }, go m (omega arith))

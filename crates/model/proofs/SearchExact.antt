@@ -88,7 +88,7 @@ module _ (t : Trace) (R : List ℕ) (m : ℕ) (v : (r : ℕ) → r ∈ R → Val
   fit h (k ∷ τ) whole =
       let b = is m (threadOf t k) in
       let s = side-own m (threadOf t k) in (
-        record { valid = cone-valid t R v (in-cone h k τ whole b s); next = next h k τ whole b s },
+        record { valid = cone-valid t R v (in-cone h k τ whole b s); turn = next h k τ whole b s },
         (λ r c s f. reads h k τ whole c s r f),
         fit (k ∷ h) τ whole,
       )

@@ -11,7 +11,7 @@ use borrow.Author.Tests.{eqb-true, eqb-false, eq-eqb, ne-eqb}
 use Rattle.model.specs.Trace.{Trace, Valid, acquire, release, threadOf, kindOf, objectOf, does}
 use Rattle.model.specs.Lists.{before, only, own, is}
 use Rattle.model.specs.Good.{depth, holder, Free, Held, WellFormed}
-use Rattle.model.specs.Reordering.{Enabled, Correct}
+use Rattle.model.specs.Reordering.{Next, Correct}
 use Rattle.model.specs.Sections.{ownDepth, isOutermost, isLast, OwnDepths}
 use Rattle.model.specs.Grid.{keeper}
 use Rattle.model.proofs.Tests.{by-cases, both, clash, true-both, does-true, true-does, false-does, is-true, true-is}
@@ -104,7 +104,7 @@ InTurn t (k ∷ h) = (own t (threadOf t k) h ≡ own t (threadOf t k) (before k)
 
 pub in-turn : (t : Trace) (h : List ℕ) → Legal t h → InTurn t h
 in-turn t [] l = tt
-in-turn t (k ∷ h) l = (l .0 .enabled .next, in-turn t h (l .1))
+in-turn t (k ∷ h) l = (l .0 .enabled .next .turn, in-turn t h (l .1))
 
 pub in-turn-only : (t : Trace) (s : ℕ → Bool) (h : List ℕ) → InTurn t h → InTurn t (only t s h)
 in-turn-only t s [] i = tt
@@ -129,11 +129,11 @@ keeper-holder t x (k ∷ h) l i =
 
 module _ (t : Trace) (w : WellFormed t) where
   -- a release is by the holder, and leaves the lock to it, unless it is a last one
-  pub release-by-holder : (h : List ℕ) → Legal t h → (k : ℕ) → Enabled t h k → kindOf t k ≡ release → Held t h k
+  pub release-by-holder : (h : List ℕ) → Legal t h → (k : ℕ) → Next t h k → kindOf t k ≡ release → Held t h k
   release-by-holder h g = held-next t w h (locked t w h g)
 
-  pub release-frees : (h : List ℕ) → Legal t h → (k : ℕ) → Enabled t h k → kindOf t k ≡ release → holder t (objectOf t k) (k ∷ h) ≡ cond (isLast t k) 0 (suc (threadOf t k))
-  release-frees h g k en r = let l = locked t w h g in after-release t h l k (en .next) r (release-by-holder h g k en r)
+  pub release-frees : (h : List ℕ) → Legal t h → (k : ℕ) → Next t h k → kindOf t k ≡ release → holder t (objectOf t k) (k ∷ h) ≡ cond (isLast t k) 0 (suc (threadOf t k))
+  release-frees h g k en r = let l = locked t w h g in after-release t h l k (en .turn) r (release-by-holder h g k en r)
 
   depths-agree : (h : List ℕ) → Legal t h → OwnDepths t h
   depths-agree h g =
@@ -141,9 +141,9 @@ module _ (t : Trace) (w : WellFormed t) where
       record {
         own-depth = own-depth t h l;
         unheld = λ x. nobody t x h l;
-        outermost = λ k e a. outermost-unheld t h l k (e .next) a;
-        taken = λ k e a. taken-free t h l k (e .next) a;
-        last = λ k e r. last-frees t h l k (e .next) r (release-by-holder h g k e r);
+        outermost = λ k e a. outermost-unheld t h l k (e .turn) a;
+        taken = λ k e a. taken-free t h l k (e .turn) a;
+        last = λ k e r. last-frees t h l k (e .turn) r (release-by-holder h g k e r);
       }
 
   -- after a correct reordering a thread's own depth agrees with who holds a lock and how deep

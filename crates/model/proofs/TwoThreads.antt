@@ -64,7 +64,7 @@ module _ (t : Trace) (two : TwoThreads t) (a b : ℕ) (c : Apart t a b) (t′ : 
 
   before-root : (r : ℕ) → Valid t r → Enabled t′ h r → (k : ℕ) → k ∈ h → threadOf t′ k ≡ threadOf t r → Earlier t k r
   before-root r v e k m p =
-      let z = enabled-mem t′ h r e k m (p ∙ same r (v .bounded)) in
+      let z = enabled-mem t′ h r (e .next) k m (p ∙ same r (v .bounded)) in
       let y = v .bounded in
       record { first = z .0; less = z .1; thread = same k (omega arith) ∙ p }
 
@@ -72,7 +72,7 @@ module _ (t : Trace) (two : TwoThreads t) (a b : ℕ) (c : Apart t a b) (t′ : 
   root-before r v e k x =
       let y = v .bounded in
       let z = x .less in
-      mem-enabled t′ h r e k (x .first) (x .less) (sym (same k (omega arith)) ∙ x .thread ∙ same r (v .bounded))
+      mem-enabled t′ h r (e .next) k (x .first) (x .less) (sym (same k (omega arith)) ∙ x .thread ∙ same r (v .bounded))
 
   near-valid : (k : ℕ) → Near t a b k → Valid t k
   near-valid k x =

@@ -9,16 +9,16 @@ use Rattle.model.specs.Trace.{Trace, Valid, read, acquire, threadOf, kin
 use Rattle.model.specs.Lists.{own, before}
 use Rattle.model.specs.Observed.{lastWrite, observed}
 use Rattle.model.specs.Good.{holder, Free}
-use Rattle.model.specs.Reordering.{StandsAfter, Enabled, Sees, Correct, EnabledAfter, BringsBoth}
+use Rattle.model.specs.Reordering.{StandsAfter, Next, Sees, Correct, EnabledAfter, BringsBoth}
 
 -- ---- what each number means
 
 -- event k after the history h has the fault n
 pub data PlaceFault (t : Trace) (h : List ℕ) (k n : ℕ) : Type 0 where
   no-event : n ≡ 21 → ¬ Valid t k → PlaceFault t h k n
-  not-next : n ≡ 22 → Valid t k → ¬ Enabled t h k → PlaceFault t h k n
-  sees-otherwise : n ≡ 23 → Enabled t h k → kindOf t k ≡ read → ¬ Sees t h k → PlaceFault t h k n
-  lock-held : n ≡ 24 → Enabled t h k → kindOf t k ≡ acquire → ¬ Free t h k → PlaceFault t h k n
+  not-next : n ≡ 22 → Valid t k → ¬ Next t h k → PlaceFault t h k n
+  sees-otherwise : n ≡ 23 → Next t h k → kindOf t k ≡ read → ¬ Sees t h k → PlaceFault t h k n
+  lock-held : n ≡ 24 → Next t h k → kindOf t k ≡ acquire → ¬ Free t h k → PlaceFault t h k n
 
 -- the answer n to the list ρ proposed for (a, b), 0 for yes: the first fault by place, else 25 if a is not enabled, else 26 if b is not
 pub data CheckAnswer (t : Trace) (a b : ℕ) (ρ : List ℕ) (n : ℕ) : Type 0 where

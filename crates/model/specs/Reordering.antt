@@ -31,11 +31,15 @@ pub record CorrectReordering (t : Trace) (ρ : List ℕ) : Type 0 where
 
 -- ---- event by event: the definition that everything else uses
 
--- enabled after a history: k is the next event of its thread, that is,
+-- k is the next event of its thread after a history:
 -- the events of its thread in the history are those before k in the trace, in order (so k is not in it)
-pub record Enabled (t : Trace) (h : List ℕ) (k : ℕ) : Type 0 where
+pub record Next (t : Trace) (h : List ℕ) (k : ℕ) : Type 0 where
   pub valid : Valid t k
-  pub next : own t (threadOf t k) h ≡ own t (threadOf t k) (before k)
+  pub turn : own t (threadOf t k) h ≡ own t (threadOf t k) (before k)
+
+-- enabled after a history
+pub record Enabled (t : Trace) (h : List ℕ) (k : ℕ) : Type 0 where
+  pub next : Next t h k
 
 -- the read k sees after a history the write it observed, or no write where it saw the start
 abbrev pub Sees : Trace → List ℕ → ℕ → Type 0

@@ -9,7 +9,7 @@ use lib.Dec.{eqb, leb}
 use Rattle.model.specs.Trace.{Trace, acquire, release, threadOf, kindOf, objectOf}
 use Rattle.model.specs.Lists.{before, own}
 use Rattle.model.specs.Good.{depth, holder, Free}
-use Rattle.model.specs.Reordering.{Enabled}
+use Rattle.model.specs.Reordering.{Next}
 
 -- how deep event k's thread holds event k's lock just before it, by the thread's own events alone
 unfoldable pub ownDepth : Trace → ℕ → ℕ
@@ -29,7 +29,7 @@ pub record OwnDepths (t : Trace) (h : List ℕ) : Type 0 where
   -- nobody holds a lock exactly at depth 0
   pub unheld : (x : ℕ) → (holder t x h ≡ 0) ↔ (depth t x h ≡ 0)
   -- the next acquire of a thread is an outermost one exactly where its thread does not hold the lock; of these alone is asked that nobody does
-  pub outermost : (k : ℕ) → Enabled t h k → kindOf t k ≡ acquire → (isOutermost t k ≡ true) ↔ (holder t (objectOf t k) h ≢ suc (threadOf t k))
-  pub taken : (k : ℕ) → Enabled t h k → kindOf t k ≡ acquire → Free t h k ↔ (isOutermost t k ≡ true → holder t (objectOf t k) h ≡ 0)
+  pub outermost : (k : ℕ) → Next t h k → kindOf t k ≡ acquire → (isOutermost t k ≡ true) ↔ (holder t (objectOf t k) h ≢ suc (threadOf t k))
+  pub taken : (k : ℕ) → Next t h k → kindOf t k ≡ acquire → Free t h k ↔ (isOutermost t k ≡ true → holder t (objectOf t k) h ≡ 0)
   -- its next release is a last one exactly where nobody holds the lock after it
-  pub last : (k : ℕ) → Enabled t h k → kindOf t k ≡ release → (isLast t k ≡ true) ↔ (holder t (objectOf t k) (k ∷ h) ≡ 0)
+  pub last : (k : ℕ) → Next t h k → kindOf t k ≡ release → (isLast t k ≡ true) ↔ (holder t (objectOf t k) (k ∷ h) ≡ 0)

@@ -46,7 +46,7 @@ module _ {t : Trace} {list : List ℕ} {i : ℕ} {last writes locks : List ℕ} 
       steps = a .judged (reverse (take i list)) (p .knows) .clean e
 
       pub passing-here : Good t → Here t (getD list i 0)
-      passing-here g = record { good = g; valid = steps .enabled .valid }
+      passing-here g = record { good = g; valid = steps .enabled .next .valid }
 
       pub passing-on : {last′ writes′ locks′ : List ℕ} → Passed t (getD list i 0) last writes locks last′ writes′ locks′ → Passing t list (i + 1) last′ writes′ locks′
       passing-on s =
@@ -68,17 +68,17 @@ module _ {t : Trace} {list : List ℕ} {i : ℕ} {last writes locks : List ℕ} 
     module _ (a b : ℕ) {u : Bool} (na : NextAnswer t last a u) where
       pub passing-lower : not u ≡ true → 25 ≡ check t a b list
       passing-lower e =
-          sym (check-exactly t a b list 25 .1 (lower-not-enabled refl correct-whole (na .no-next (reverse list) writes locks knows-whole (not-true u e))))
+          sym (check-exactly t a b list 25 .1 (lower-not-enabled refl correct-whole (λ x. na .no-next (reverse list) writes locks knows-whole (not-true u e) (x .next))))
 
       module _ (e : not u ≡ false) {v : Bool} (nb : NextAnswer t last b v) where
         enabled-lower : Enabled t (reverse list) a
-        enabled-lower = na .yes-next (reverse list) writes locks knows-whole (not-false u e)
+        enabled-lower = record { next = na .yes-next (reverse list) writes locks knows-whole (not-false u e) }
 
         pub passing-higher : not v ≡ true → 26 ≡ check t a b list
         passing-higher f =
-            sym (check-exactly t a b list 26 .1 (higher-not-enabled refl correct-whole enabled-lower (nb .no-next (reverse list) writes locks knows-whole (not-true v f))))
+            sym (check-exactly t a b list 26 .1 (higher-not-enabled refl correct-whole enabled-lower (λ x. nb .no-next (reverse list) writes locks knows-whole (not-true v f) (x .next))))
 
         pub passing-both : not v ≡ false → 0 ≡ check t a b list
         passing-both f =
             sym (check-exactly t a b list 0 .1
-            (accepted refl (record { correct = correct-whole; first = enabled-lower; second = nb .yes-next (reverse list) writes locks knows-whole (not-false v f) })))
+            (accepted refl (record { correct = correct-whole; first = enabled-lower; second = record { next = nb .yes-next (reverse list) writes locks knows-whole (not-false v f) } })))
