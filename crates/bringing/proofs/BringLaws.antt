@@ -10,7 +10,7 @@ use lib.Seq.{getD-set-same, getD-set-other}
 use lib.Dec.{eqb}
 use borrow.Author.Tests.{eqb-true, eqb-false, ne-eqb}
 use Rattle.model.specs.Trace.{Trace, Valid}
-use Rattle.model.specs.Cone.{InCone, earlier, observes, closes}
+use Rattle.model.specs.Cone.{InCone, brought, earlier, observes, closes}
 use Rattle.model.specs.Rounds.{isExempt}
 use Rattle.model.proofs.Tests.{by-cases, clash}
 use Rattle.model.proofs.ConeExact.{exempt-false}
@@ -124,9 +124,9 @@ module _ (t : Trace) (R : List ℕ) where
       two-sound =
           let p-is = prev-is p ep .0 in
           let o-is = obs-is o eo .0 in
-          let one : Sound t R (set l p 1) = sound-more l s p (λ q. rw p-is (earlier in-cone (previous-earlier t k (rw p-is at q)))) in
+          let one : Sound t R (set l p 1) = sound-more l s p (λ q. rw p-is (brought in-cone (earlier (previous-earlier t k (rw p-is at q))))) in
           sound-more (set l p 1) one o
-          (λ q. let ne : observedBy t k ≢ 0 = rw o-is at q in let x = observed-reads t k ne in rw o-is (observes in-cone (x .0) (x .1) ne))
+          (λ q. let ne : observedBy t k ≢ 0 = rw o-is at q in let x = observed-reads t k ne in rw o-is (brought in-cone (observes (x .0) (x .1) ne)))
 
       two-above : (j : ℕ) → k < j → getD two j 0 ≡ 1 → getD l j 0 ≡ 1
       two-above j u e =
@@ -164,7 +164,7 @@ module _ (t : Trace) (R : List ℕ) where
           let a = release-acquires t k new other in
           record {
             high = rel-is r er .1;
-            cone = sound-more two two-sound r (λ q. rw r-is (closes in-cone (a .0) (exempt-false t R k (sym ex ∙ xf)) (a .1) new));
+            cone = sound-more two two-sound r (λ q. rw r-is (brought in-cone (closes (a .0) (exempt-false t R k (sym ex ∙ xf)) (a .1) new)));
             above = λ j u h e. two-above j u (sym (getD-set-other two r j 1 0 (omega arith)) ∙ e);
             brought = λ e. here (flag-keep two r) (λ q. getD-set-same two r 1 0 inside);
             grown = grown-more two-grown (grown-new two r inside ne) r (omega arith);

@@ -7,7 +7,7 @@ use lib.ListN.{length, getD}
 use lib.Dec.{eqb}
 use borrow.Author.Tests.{eqb-true, eqb-false}
 use Rattle.model.specs.Trace.{Trace, Valid}
-use Rattle.model.specs.Cone.{InCone, Earlier, root, earlier, observes, closes}
+use Rattle.model.specs.Cone.{InCone, Brings, Earlier, root, brought, earlier, observes, closes}
 use Rattle.model.proofs.Tests.{by-cases}
 use Rattle.model.proofs.ConeExact.{cone-valid, false-exempt}
 use Rattle.model.proofs.Merges.{getD-mem}
@@ -74,15 +74,16 @@ module _ {t : Trace} {R f : List ℕ} {n : ℕ} (s : Closing t R n f) (n0 : n �
       record { first = h; less = omega arith; thread = x .thread ∙ sym d }
       (s .closed (previous t k) (omega arith) (omega arith) g .earlier))
 
-  brought : {k : ℕ} → InCone t R k → getD f k 0 ≡ 1 → Brought t R f k
-  brought {k} x g = let u = cone-valid t R (v .valid) x in s .closed k (let h = u .positive in omega arith) (u .bounded) g
+  -- what a flagged event brings in is flagged
+  reaches : (k j : ℕ) → k ≤ length t → Brought t R f k → Brings t R k j → getD f j 0 ≡ 1
+  reaches k j l g (earlier y) = chain k j k (omega arith) l y (g .earlier)
+  reaches k j l g (observes c o ne) = let q : observedBy t k ≡ j = reads-observed t k c ∙ o in rw q at (g .seen)
+  reaches k j l g (closes c out o ne) = let q : releaseOf t k ≡ j = acquires-release t k c ∙ o in rw q at (g .closing (false-exempt t R k out))
 
   all : {k : ℕ} → InCone t R k → getD f k 0 ≡ 1
   all {k} (root {r = r} m x) = let y = mem-place m in chain r k r (omega arith) (v .valid r m .bounded) x (rw (y .2) at (s .rooted (y .0) (y .1)))
-  all {k = j} (earlier {k = k} x y) = chain k j k (omega arith) (cone-valid t R (v .valid) x .bounded) y (brought x (all x) .earlier)
-  all {k = w} (observes {k = k} x c o ne) = let q : observedBy t k ≡ w = reads-observed t k c ∙ o in rw q at (brought x (all x) .seen)
-  all {k = r} (closes {k = k} x c out o ne) =
-      let q : releaseOf t k ≡ r = acquires-release t k c ∙ o in rw q at (brought x (all x) .closing (false-exempt t R k out))
+  all {k = j} (brought {k = k} x b) =
+      let u = cone-valid t R (v .valid) x in reaches k j (u .bounded) (s .closed k (let h = u .positive in omega arith) (u .bounded) (all x)) b
 
   pub closing-end : ConeFlags t R f
   closing-end = record { room = s .cone .room; is = λ k u. ((λ g. s .cone .sound k u g), (λ x. all x)) }

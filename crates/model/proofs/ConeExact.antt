@@ -11,9 +11,9 @@ use borrow.Author.Tests.{eqb-true, eq-eqb, ltb-true, lt-ltb, not-true}
 use Rattle.model.specs.Trace.{Trace, Valid, read, acquire, threadOf, kindOf}
 use Rattle.model.specs.Lists.{_∈_, upTo, keep}
 use Rattle.model.specs.Observed.{observed}
-use Rattle.model.specs.Cone.{InCone, Earlier, Outside, root, earlier, observes, closes, matching}
+use Rattle.model.specs.Cone.{InCone, Brings, Earlier, Outside, root, brought, earlier, observes, closes, matching}
 use Rattle.model.specs.Race.{Increasing}
-use Rattle.model.specs.Rounds.{brought, rounds, isEarlier, isRooted, isObserved, isExempt, isClosing, brings, cone}
+use Rattle.model.specs.Rounds.{isBrought, rounds, isEarlier, isRooted, isObserved, isExempt, isClosing, brings, cone}
 use Rattle.model.proofs.Tests.{by-cases, clash, both, true-both, or-right}
 use Rattle.model.proofs.Lists.{any-mem, mem-any, mem-reverse, reverse-mem, increasing-reverse}
 use Rattle.model.proofs.Histories.{observed-range}
@@ -22,14 +22,17 @@ use Rattle.model.proofs.LeastSet.{rounds-fixed, least-base, least-step,
 
 module _ (t : Trace) (R : List ℕ) where
   -- the cone of events of the trace has only such
+  earlier-valid : (j k : ℕ) → Valid t k → Earlier t j k → Valid t j
+  earlier-valid j k v e = record { positive = e .first; bounded = let z = v .bounded in let y = e .less in omega arith }
+
+  brings-valid : (k j : ℕ) → Valid t k → Brings t R k j → Valid t j
+  brings-valid k j v (earlier e) = earlier-valid j k v e
+  brings-valid k j v (observes r o ne) = let m = observed-range t k (rw o ne) in record { positive = omega arith; bounded = let z = v .bounded in omega arith }
+  brings-valid k j v (closes a out o ne) = rw o at (matching-valid t k (rw o ne))
+
   pub cone-valid : ((r : ℕ) → r ∈ R → Valid t r) → {k : ℕ} → InCone t R k → Valid t k
-  cone-valid v (root {r = r} m e) = record { positive = e .first; bounded = let z = v r m .bounded in let y = e .less in omega arith }
-  cone-valid v (earlier x e) = let ih = cone-valid v x in record { positive = e .first; bounded = let z = ih .bounded in let y = e .less in omega arith }
-  cone-valid v (observes {k = k} x r o ne) =
-      let ih = cone-valid v x in
-      let m = observed-range t k (rw o ne) in
-      record { positive = omega arith; bounded = let z = ih .bounded in omega arith }
-  cone-valid v (closes {k = k} x a out o ne) = rw o at (matching-valid t k (rw o ne))
+  cone-valid v {k} (root {r = r} m e) = earlier-valid k r (v r m) e
+  cone-valid v {k = j} (brought {k = k} x b) = brings-valid k j (cone-valid v x) b
 
   -- ---- the tests
 
@@ -57,52 +60,52 @@ module _ (t : Trace) (R : List ℕ) where
   unfolding isRooted
   rooted-cone k p e = let r = mem-any (λ r. isEarlier t k r) R e in root (r .1) (earlier-true k (r .0) p (r .2))
 
-  brings-cone : (j k : ℕ) → InCone t R j → 1 ≤ k → brings t R j k ≡ true → InCone t R k
+  brings-true : (j k : ℕ) → 1 ≤ k → brings t R j k ≡ true → Brings t R j k
   unfolding brings isObserved isClosing
-  brings-cone j k x p e =
+  brings-true j k p e =
       by-cases (isEarlier t k j)
-      (λ a. earlier x (earlier-true k j p a))
+      (λ a. earlier (earlier-true k j p a))
       (λ a.
       by-cases (isObserved t j k)
       (λ b.
       let r = both (eqb (kindOf t j) read) (eqb (observed t j) k) b in
-      observes x (eqb-true _ _ (r .0)) (eqb-true _ _ (r .1)) (omega arith))
+      observes (eqb-true _ _ (r .0)) (eqb-true _ _ (r .1)) (omega arith))
       (λ b.
       let r = both (eqb (kindOf t j) acquire) (not (isExempt t R j) && eqb (matching t j) k) (rw (a, b) at e) in
       let s = both (not (isExempt t R j)) (eqb (matching t j) k) (r .1) in
-      closes x (eqb-true _ _ (r .0)) (exempt-false j (not-true _ (s .0))) (eqb-true _ _ (s .1)) (omega arith)))
+      closes (eqb-true _ _ (r .0)) (exempt-false j (not-true _ (s .0))) (eqb-true _ _ (s .1)) (omega arith)))
+
+  true-brings : (j k : ℕ) → Brings t R j k → brings t R j k ≡ true
+  unfolding brings isObserved isClosing
+  true-brings j k (earlier e) = rw (true-earlier k j e)
+  true-brings j k (observes r o ne) = or-right (isEarlier t k j) (rw (eq-eqb _ _ r, eq-eqb _ _ o))
+  true-brings j k (closes a out o ne) = or-right (isEarlier t k j) (or-right (isObserved t j k) (rw (eq-eqb _ _ a, false-exempt j out) (eq-eqb _ _ o)))
 
   abbrev found : List ℕ
   found = rounds (length t) (isRooted t R) (brings t R) (length t)
 
   module _ (v : (r : ℕ) → r ∈ R → Valid t r) where
-    bring : (j k : ℕ) → j ∈ found → Valid t k → brings t R j k ≡ true → k ∈ found
-    bring j k m u e = least-step (length t) (isRooted t R) (brings t R) j k m (u .positive) (u .bounded) e
-
     cone-found : {k : ℕ} → InCone t R k → k ∈ found
-    unfolding isRooted brings isObserved isClosing
+    unfolding isRooted
     cone-found {k} (root {r = r} m e) =
         let u = cone-valid v (root m e) in
         least-base (length t) (isRooted t R) (brings t R) k (u .positive) (u .bounded) (any-mem (λ r. isEarlier t k r) m (true-earlier k r e))
-    cone-found {k = j} (earlier {k = k} x e) = bring k j (cone-found x) (cone-valid v (earlier x e)) (rw (true-earlier j k e))
-    cone-found {k = w} (observes {k = k} x r o ne) =
-        bring k w (cone-found x) (cone-valid v (observes x r o ne)) (or-right (isEarlier t w k) (rw (eq-eqb _ _ r, eq-eqb _ _ o)))
-    cone-found {k = w} (closes {k = k} x r out o ne) =
-        bring k w (cone-found x) (cone-valid v (closes x r out o ne))
-        (or-right (isEarlier t w k) (or-right (isObserved t k w) (rw (eq-eqb _ _ r, false-exempt k out) (eq-eqb _ _ o))))
+    cone-found {k = j} (brought {k = k} x b) =
+        let u = cone-valid v (brought x b) in
+        least-step (length t) (isRooted t R) (brings t R) k j (cone-found x) (u .positive) (u .bounded) (true-brings k j b)
 
     -- the computed cone is the cone
     pub cone-exactly : (k : ℕ) → (k ∈ cone t R) ↔ InCone t R k
     unfolding cone
     cone-exactly k = (
-      (λ m. least-in (length t) (isRooted t R) (brings t R) (λ j. InCone t R j) rooted-cone brings-cone (length t) k (mem-reverse k found m)),
+      (λ m. least-in (length t) (isRooted t R) (brings t R) (λ j. InCone t R j) rooted-cone (λ j i x p e. brought x (brings-true j i p e)) (length t) k (mem-reverse k found m)),
       (λ x. reverse-mem (cone-found x)),
     )
 
   -- it is made by a test, so it is in the trace's order
   pub cone-made : (g : ℕ → Bool) × (cone t R ≡ reverse (keep g (upTo (length t))))
   unfolding cone
-  cone-made = (brought (isRooted t R) (brings t R) found, ap reverse (rounds-fixed (length t) (isRooted t R) (brings t R)))
+  cone-made = (isBrought (isRooted t R) (brings t R) found, ap reverse (rounds-fixed (length t) (isRooted t R) (brings t R)))
 
   pub cone-increasing : Increasing (cone t R)
   cone-increasing = let c = cone-made in rw (c .1) (increasing-reverse (c .0) (length t))

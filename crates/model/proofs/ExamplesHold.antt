@@ -13,7 +13,7 @@ use Rattle.model.specs.Sections.{ownDepth, isOutermost, isLast}
 use Rattle.model.specs.Cone.{givesBack, matching}
 use Rattle.model.specs.Check.{sameList, isValid, isNext, isSeen, isFree, placeFault, faultFrom, isEnabled, check}
 use Rattle.model.specs.Refusals.{eventRefusal, refusalIn, refusal, isGood}
-use Rattle.model.specs.Rounds.{brought, rounds, isEarlier, isRooted, isObserved, isExempt, isClosing, brings, cone}
+use Rattle.model.specs.Rounds.{isBrought, rounds, isEarlier, isRooted, isObserved, isExempt, isClosing, brings, cone}
 use Rattle.model.specs.Grid.{sawOther, sawNone, readStep, writeStep, lockStep, mayStep, stepAt, path}
 use Rattle.model.specs.Decision.{shownFor, isAccess, isConflicting, raceOn, races}
 use Rattle.model.specs.Examples.{Example, Proposal, HoldsOf, proposal, examples}
@@ -35,7 +35,7 @@ computed e =
 pub examples-hold : map computed examples ≡ map some examples
 unfolding does listed is but threads observed ownDepth isOutermost isLast givesBack matching sameList isValid isNext isSeen isFree placeFault faultFrom isEnabled check
     eventRefusal refusalIn refusal isGood
-    brought rounds isEarlier isRooted isObserved isExempt isClosing brings cone sawOther sawNone readStep writeStep lockStep mayStep stepAt path
+    isBrought rounds isEarlier isRooted isObserved isExempt isClosing brings cone sawOther sawNone readStep writeStep lockStep mayStep stepAt path
     shownFor isAccess isConflicting raceOn races
 examples-hold = refl
 

@@ -14,7 +14,7 @@ use Rattle.model.specs.Lists.{_∈_, upTo, before, keep, anyIn, listed, 
 use Rattle.model.specs.Observed.{observed}
 use Rattle.model.specs.Good.{WellFormed}
 use Rattle.model.specs.Reordering.{Sees, Correct}
-use Rattle.model.specs.Cone.{InCone, earlier, observes}
+use Rattle.model.specs.Cone.{InCone, brought, earlier, observes}
 use Rattle.model.specs.Race.{Candidate, Increasing, Preferred, Shown}
 use Rattle.model.specs.Rounds.{cone}
 use Rattle.model.specs.Grid.{side, sawOther, MergeOf, Passes}
@@ -70,7 +70,7 @@ module _ (t : Trace) (R : List ℕ) (m : ℕ) (v : (r : ℕ) → r ∈ R → Val
         ∙ keep-keep (λ j. is (threadOf t k) (threadOf t j)) (test b) (before k) (λ j n e.
         let z = mem-before k j n in
         let same : threadOf t j ≡ threadOf t k = is-true (threadOf t k) (threadOf t j) e in
-        true-both (cone-g j (earlier in-cone (record { first = z .0; less = z .1; thread = same }))) (rw same s))
+        true-both (cone-g j (brought in-cone (earlier (record { first = z .0; less = z .1; thread = same })))) (rw same s))
 
     reads : kindOf t k ≡ read → sawOther t m b k ≡ false → Sees t (only t (side m b) h) k
     unfolding observed
@@ -80,7 +80,7 @@ module _ (t : Trace) (R : List ℕ) (m : ℕ) (v : (r : ℕ) → r ∈ R → Val
         (λ p.
         by-cases (eqb (observed t k) 0)
         (λ z. inl (eqb-true _ _ z))
-        (λ z. inr (true-both (cone-g (observed t k) (observes in-cone r refl (eqb-false _ _ z))) p)))
+        (λ z. inr (true-both (cone-g (observed t k) (brought in-cone (observes r refl (eqb-false _ _ z)))) p)))
         (saw-false t m b k f)))
 
   fit : (h τ : List ℕ) → ((b : Bool) → only t (side m b) (reverseAux τ h) ≡ keep (test b) (upTo (length t))) → Fit t m h τ

@@ -9,7 +9,7 @@ use lib.ListN.{length}
 use Rattle.model.specs.Trace.{Trace, Valid, threadOf}
 use Rattle.model.specs.Lists.{_∈_, TwoThreads, but}
 use Rattle.model.specs.Reordering.{BringsBoth}
-use Rattle.model.specs.Cone.{InCone, Earlier, root, earlier, observes, closes}
+use Rattle.model.specs.Cone.{InCone, Brings, Earlier, root, brought, earlier, observes, closes}
 use Rattle.model.specs.Race.{Apart, Candidate, Reported, Preferred, Shown, Witness, pair}
 use Rattle.model.specs.Extension.{Extension}
 use Rattle.model.proofs.Lists.{mem-reverse}
@@ -33,17 +33,18 @@ module _ (u v : Trace) (n a b : ℕ) (p : SameStart u v n a b) where
     thread = sym (same-thread u v n (p .agree) j (let z = e .less in omega arith)) ∙ e .thread ∙ same-thread u v n (p .agree) k l;
   }
 
+  brings-agree : (k j : ℕ) → 1 ≤ k → k ≤ n → Brings u (pair a b) k j → (1 ≤ j) × (j ≤ n) × Brings v (pair a b) k j
+  brings-agree k j f l (earlier e) = (e .first, (let z = e .less in omega arith), earlier (earlier-agree j k l e))
+  brings-agree k j f l (observes r o ne) =
+      let m = observed-range u k (rw o ne) in
+      (omega arith, omega arith, observes (sym (same-kind u v n (p .agree) k l) ∙ r) (sym (observed-agree u v n (p .agree) k l) ∙ o) ne)
+  brings-agree k j f l (closes r out o ne) =
+      absurd (⊎-elim (λ q. out a (in-pair-a a b) (sym q)) (λ q. out b (in-pair-b a b) (sym q)) (p .two k f l))
+
   cone-agree : {k : ℕ} → InCone u (pair a b) k → (1 ≤ k) × (k ≤ n) × InCone v (pair a b) k
   cone-agree {k} (root {r = r} m e) = let l = p .low r m in (e .first, (let z = e .less in omega arith), root m (earlier-agree k r l e))
-  cone-agree {k = j} (earlier {k = k} x e) =
-      let ih = cone-agree x in (e .first, (let z = e .less in let y = ih .1 in omega arith), earlier (ih .2) (earlier-agree j k (ih .1) e))
-  cone-agree (observes {k = k} x r o ne) =
-      let ih = cone-agree x in
-      let m = observed-range u k (rw o ne) in
-      (omega arith, omega arith, observes (ih .2) (sym (same-kind u v n (p .agree) k (ih .1)) ∙ r) (sym (observed-agree u v n (p .agree) k (ih .1)) ∙ o) ne)
-  cone-agree (closes {k = k} x r out o ne) =
-      let ih = cone-agree x in
-      absurd (⊎-elim (λ q. out a (in-pair-a a b) (sym q)) (λ q. out b (in-pair-b a b) (sym q)) (p .two k (ih .0) (ih .1)))
+  cone-agree {k = j} (brought {k = k} x b) =
+      let ih = cone-agree x in let y = brings-agree k j (ih .0) (ih .1) b in (y .0, y .1, brought (ih .2) (y .2))
 
   -- the preference depends only on the threads of the lists' events
   preferred-agree : (m : ℕ) (ρ τ : List ℕ) → Within n ρ → Within n τ → Preferred u m ρ τ → Preferred v m ρ τ

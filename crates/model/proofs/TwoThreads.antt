@@ -14,7 +14,7 @@ use Rattle.model.specs.Lists.{_∈_, TwoThreads, upTo, only, own, is, bu
 use Rattle.model.specs.Observed.{observed}
 use Rattle.model.specs.Good.{Good}
 use Rattle.model.specs.Reordering.{Enabled}
-use Rattle.model.specs.Cone.{InCone, Earlier, root, earlier, observes, closes}
+use Rattle.model.specs.Cone.{InCone, Brings, Earlier, root, brought, earlier, observes, closes}
 use Rattle.model.specs.Race.{Apart, Candidate, Reported, Increasing, pair}
 use Rattle.model.specs.Extension.{Extension, PredictableInExtension}
 use Rattle.model.proofs.Tests.{by-cases, either-true, true-either, is-true, true-is, false-is, true-but, false-but}
@@ -105,11 +105,14 @@ module _ (t : Trace) (two : TwoThreads t) (a b : ℕ) (c : Apart t a b) (t′ : 
   not-outside : (k : ℕ) → Valid t k → ((r : ℕ) → r ∈ pair a b → threadOf t r ≢ threadOf t k) → ⊥
   not-outside k v out = ⊎-elim (λ p. out a (in-pair-a a b) (sym p)) (λ p. out b (in-pair-b a b) (sym p)) (two-threads t a b two c k v)
 
+  brings-kept : (k j : ℕ) → k ∈ kept → Brings t (pair a b) k j → j ∈ kept
+  brings-kept k j m (earlier e) = near-kept j (near-earlier t a b j k e (kept-near k m))
+  brings-kept k j m (observes r o ne) = rw o at (legal-observed t kept kept-legal k m r (rw o ne))
+  brings-kept k j m (closes r out o ne) = absurd (not-outside k (near-valid k (kept-near k m)) out)
+
   cone-kept : {k : ℕ} → InCone t (pair a b) k → k ∈ kept
   cone-kept {k} (root {r = r} m e) = near-kept k (mem-pair m (λ p. inl (rw p at e)) (λ p. inr (rw p at e)))
-  cone-kept {k = j} (earlier {k = k} x e) = near-kept j (near-earlier t a b j k e (kept-near k (cone-kept x)))
-  cone-kept (observes {k = k} x r o ne) = rw o at (legal-observed t kept kept-legal k (cone-kept x) r (rw o ne))
-  cone-kept (closes {k = k} x r out o ne) = absurd (not-outside k (near-valid k (kept-near k (cone-kept x))) out)
+  cone-kept {k = j} (brought {k = k} x b) = brings-kept k j (cone-kept x) b
 
   root-not-near : (r : ℕ) → r ∈ pair a b → Near t a b r → ⊥
   root-not-near r m x =

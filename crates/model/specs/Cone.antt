@@ -27,13 +27,19 @@ matching t k = cond (isOutermost t k) (nearest (λ j. givesBack t k j) (numbers 
 abbrev pub Outside : Trace → List ℕ → ℕ → Type 0
 Outside t R k = (r : ℕ) → r ∈ R → threadOf t r ≢ threadOf t k
 
--- Causal cone of the roots R (of a pair: a and b): the least set with these rules. The roots' threads are exempt from rule (iv).
+-- Causal cone of the roots R (of a pair: a and b): the least set with rules (i) to (iv). The roots' threads are exempt from rule (iv).
+
+-- event k brings event j into it
+pub data Brings (t : Trace) (R : List ℕ) (k j : ℕ) : Type 0 where
+  -- (ii) with an event all earlier ones of its thread
+  earlier : Earlier t j k → Brings t R k j
+  -- (iii) with a read its observed write
+  observes : kindOf t k ≡ read → observed t k ≡ j → j ≢ 0 → Brings t R k j
+  -- (iv) with an outermost acquire by a thread other than the roots' its matching release, if there is one
+  closes : kindOf t k ≡ acquire → Outside t R k → matching t k ≡ j → j ≢ 0 → Brings t R k j
+
 pub data InCone (t : Trace) (R : List ℕ) : ℕ → Type 0 where
   -- (i) every event before a root in its thread
   root : {k r : ℕ} → r ∈ R → Earlier t k r → InCone t R k
-  -- (ii) with an event all earlier ones of its thread
-  earlier : {j k : ℕ} → InCone t R k → Earlier t j k → InCone t R j
-  -- (iii) with a read its observed write
-  observes : {k w : ℕ} → InCone t R k → kindOf t k ≡ read → observed t k ≡ w → w ≢ 0 → InCone t R w
-  -- (iv) with an outermost acquire by a thread other than the roots' its matching release, if there is one
-  closes : {k r : ℕ} → InCone t R k → kindOf t k ≡ acquire → Outside t R k → matching t k ≡ r → r ≢ 0 → InCone t R r
+  -- (ii) to (iv)
+  brought : {j k : ℕ} → InCone t R k → Brings t R k j → InCone t R j

@@ -12,13 +12,13 @@ use Rattle.model.specs.Cone.{matching}
 -- ---- the least set of numbers up to n that has a base and with j all that j brings
 
 -- k is in the base, or a member of S brings it
-unfoldable pub brought : (ℕ → Bool) → (ℕ → ℕ → Bool) → List ℕ → ℕ → Bool
-brought base brings S k = base k || anyIn (λ j. brings j k) S
+unfoldable pub isBrought : (ℕ → Bool) → (ℕ → ℕ → Bool) → List ℕ → ℕ → Bool
+isBrought base brings S k = base k || anyIn (λ j. brings j k) S
 
 -- after f rounds; the highest number first
 unfoldable pub rounds : ℕ → (ℕ → Bool) → (ℕ → ℕ → Bool) → ℕ → List ℕ
 rounds n base brings zero = []
-rounds n base brings (suc f) = keep (brought base brings (rounds n base brings f)) (upTo n)
+rounds n base brings (suc f) = keep (isBrought base brings (rounds n base brings f)) (upTo n)
 
 -- ---- the cone's rules as tests
 

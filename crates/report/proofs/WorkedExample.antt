@@ -8,7 +8,7 @@ use Rattle.model.specs.Observed.{observed}
 use Rattle.model.specs.Cone.{givesBack, matching}
 use Rattle.model.specs.Check.{isValid, isFree}
 use Rattle.model.specs.Refusals.{eventRefusal, refusalIn, refusal}
-use Rattle.model.specs.Rounds.{brought, rounds, isEarlier, isRooted, isObserved, isExempt, isClosing, brings, cone}
+use Rattle.model.specs.Rounds.{isBrought, rounds, isEarlier, isRooted, isObserved, isExempt, isClosing, brings, cone}
 use Rattle.model.specs.Grid.{sawOther, sawNone, readStep, writeStep, lockStep, mayStep, stepAt, path}
 use Rattle.model.specs.Decision.{shownFor, isAccess, isConflicting, raceOn, races}
 use Rattle.preambles.specs.Readable.{isReadable}
@@ -29,7 +29,7 @@ qBytes =
 -- "events 8 threads 2", "race 1 8 witness 5 6 7" and "races 1"
 pub report-of-q : report qBytes ≡ eventsLine 8 2 ++ (raceLine 1 8 (5 ∷ 6 ∷ 7 ∷ []) ++ racesLine 1)
 unfolding does listed is but threads observed givesBack matching isValid isFree eventRefusal refusalIn refusal
-    brought rounds isEarlier isRooted isObserved isExempt isClosing brings cone sawOther sawNone readStep writeStep lockStep mayStep stepAt path
+    isBrought rounds isEarlier isRooted isObserved isExempt isClosing brings cone sawOther sawNone readStep writeStep lockStep mayStep stepAt path
     shownFor isAccess isConflicting raceOn races
     eventsFrom traceOf distance count start preamble isReadable eventPart events isMarked isPointed layoutRefusal fileRefusal
     decimal eventsLine raceHead raceLine racesLine report
