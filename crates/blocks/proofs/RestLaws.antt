@@ -111,7 +111,7 @@ last-left t p = let n = length-append (raceLines (racesLeft t p)) (lastLine t) i
 module _ (t : Trace) (w : WellFormed t) where
   start-left : racesLeft t start ≡ races t
   unfolding racesLeft
-  start-left = all-after 0 0 (races t) (λ y m. let v = races-listing t w .members y .0 m .conflicting .apart .first .positive in inl (omega arith))
+  start-left = all-after 0 0 (races t) (λ y m. let v = races-listing t w .members y .0 m .conflicting .first .positive in inl (omega arith))
 
   -- at the start the rest is all but the first line
   pub start-rest : rest t start ≡ raceLines (races t) ++ racesLine (length (races t))

@@ -27,7 +27,7 @@ module _ (t : Trace) (a b : ℕ) (c : Bool) (ec : c ≡ isConflicting t a b) (ye
   pub check-asked : Good t → {prev obs rel : List ℕ} → Linked t prev obs rel → CheckAsked t prev obs rel a b
   check-asked g l =
       let k = conflicting-exactly t a b .0 (sym ec ∙ not-false c yes) in
-      record { good = g; earlier = l .earlier; seen = l .seen; released = l .closing; lower = k .apart .first; higher = k .apart .second }
+      record { good = g; earlier = l .earlier; seen = l .seen; released = l .closing; lower = k .first; higher = k .second }
 
 module _ (t : Trace) (a b : ℕ) (list : List ℕ) (c : Bool) (ec : c ≡ isConflicting t a b) where
   pub check-refused : not c ≡ true → NotChecked NotConflicting ≡ checkIn none t a b list

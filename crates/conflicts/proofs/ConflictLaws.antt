@@ -40,19 +40,19 @@ module _ (t : Trace) (a b : ℕ) where
   no-pair n = sym (false-test (conflicting-exactly t a b .0) n)
 
   pub below : a < 1 → false ≡ isConflicting t a b
-  below h = no-pair (λ c. let p = c .apart .first .positive in omega arith)
+  below h = no-pair (λ c. let p = c .first .positive in omega arith)
 
   pub not-lower : b ≤ a → false ≡ isConflicting t a b
   not-lower h = no-pair (λ c. let p = c .lower in omega arith)
 
   pub above : (n : ℕ) → n ≡ length t → n < b → false ≡ isConflicting t a b
-  above n l h = no-pair (λ c. let p = c .apart .second .bounded in omega arith)
+  above n l h = no-pair (λ c. let p = c .second .bounded in omega arith)
 
   pub other-cell : (x y : ℕ) → x ≡ objectOf t a → y ≡ objectOf t b → (x ≡ y → ⊥) → false ≡ isConflicting t a b
   other-cell x y e f n = no-pair (λ c. n (e ∙ c .cell ∙ sym f))
 
   pub same-thread : (x y : ℕ) → x ≡ threadOf t a → y ≡ threadOf t b → x ≡ y → false ≡ isConflicting t a b
-  same-thread x y e f q = no-pair (λ c. c .apart .threads (sym e ∙ q ∙ f))
+  same-thread x y e f q = no-pair (λ c. c .threads (sym e ∙ q ∙ f))
 
   module _ (l : Lower t a b) (x y : ℕ) (ex : x ≡ objectOf t a) (ey : y ≡ objectOf t b) (cell : x ≡ y) (c d : ℕ) (ec : c ≡ threadOf t a) (ed : d ≡ threadOf t b) (apart : c ≡ d → ⊥) where
     pub by-kinds : (k j : ℕ) → k ≡ kindOf t a → j ≡ kindOf t b → (r : Bool) → r ≡ accesses k j → r ≡ isConflicting t a b

@@ -69,7 +69,7 @@ module _ {t : Trace} {a b : ℕ} {prev obs rel list₀ area₀ list area : List 
 
     beyond : (z : ℕ) → n < z → witnessOf t a z ≡ none
     unfolding witnessOf
-    beyond z h = rw (false-test (conflicting-exactly t a z .0) (λ c. let b = c .apart .second .bounded in omega arith))
+    beyond z h = rw (false-test (conflicting-exactly t a z .0) (λ c. let b = c .second .bounded in omega arith))
 
     pub with-no-more : n < y → HandsWith t a b list₀ list area₀ area NoMore
     with-no-more h = record {

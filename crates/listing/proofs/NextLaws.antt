@@ -93,4 +93,4 @@ module _ (t : Trace) (w : WellFormed t) where
     pub next-over : length t < a → nextRace t a b ≡ none
     next-over h =
         next-none t w a b .1
-        (λ x r f. let p = r .conflicting .apart .first .bounded in ⊎-elim (λ q. omega arith) (λ q. let e = q .0 in omega arith) f)
+        (λ x r f. let p = r .conflicting .first .bounded in ⊎-elim (λ q. omega arith) (λ q. let e = q .0 in omega arith) f)

@@ -134,15 +134,13 @@ module _ (t t′ : Trace) (long : Extension t t′) where
   pub extended-conflicting : (a b : ℕ) → Conflicting t a b → Conflicting t′ a b
   extended-conflicting a b c =
       let e : (k : ℕ) → k ≤ length t → at t k ≡ at t′ k = extension-agree in
-      let p = c .apart .first .bounded in
-      let q = c .apart .second .bounded in
+      let p = c .first .bounded in
+      let q = c .second .bounded in
       let ka = same-kind t t′ (length t) e a p in
       let kb = same-kind t t′ (length t) e b q in record {
-        apart = record {
-          first = extended-valid a (c .apart .first);
-          second = extended-valid b (c .apart .second);
-          threads = λ z. c .apart .threads (same-thread t t′ (length t) e a p ∙ z ∙ sym (same-thread t t′ (length t) e b q));
-        };
+        first = extended-valid a (c .first);
+        second = extended-valid b (c .second);
+        threads = λ z. c .threads (same-thread t t′ (length t) e a p ∙ z ∙ sym (same-thread t t′ (length t) e b q));
         lower = c .lower;
         accesses = (
           ⊎-elim (λ z. inl (sym ka ∙ z)) (λ z. inr (sym ka ∙ z)) (c .accesses .0),

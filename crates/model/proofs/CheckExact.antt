@@ -14,6 +14,7 @@ use Rattle.model.specs.Good.{Free}
 use Rattle.model.specs.Reordering.{Next, Sees, Step, CorrectFrom, EnabledAfter, BringsBoth}
 use Rattle.model.specs.Check.{PlaceFault, no-event, not-next, sees-otherwise, lock-held, CheckAnswer, accepted, first-fault, lower-not-enabled, higher-not-enabled, sameList, isValid, isNext, isSeen, isOpen, isFree, placeFault, firstOf, faultFrom, isEnabled, check}
 use Rattle.model.proofs.Tests.{by-cases, both, true-both, either-true, true-either, not-both, both-not, false-test, test-false}
+use Rattle.model.proofs.Threads.{for-pair, in-pair-a, in-pair-b}
 
 first-nonzero : (f g : ℕ) → f ≢ 0 → firstOf f g ≡ f
 first-nonzero zero g ne = absurd (ne refl)
@@ -177,7 +178,7 @@ module _ (t : Trace) where
         by-cases (isEnabled t ρ a)
         (λ p.
         by-cases (isEnabled t ρ b)
-        (λ q. accepted (rw (z, p, q)) (record { correct = c; first = enabled-true ρ a p; second = enabled-true ρ b q }))
+        (λ q. accepted (rw (z, p, q)) (record { correct = c; enabled = for-pair (EnabledAfter t ρ) (enabled-true ρ a p) (enabled-true ρ b q) }))
         (λ q. higher-not-enabled (rw (z, p, q)) c (enabled-true ρ a p) (test-false (true-enabled ρ b) q)))
         (λ p. lower-not-enabled (rw (z, p)) c (test-false (true-enabled ρ a) p)))
         (λ r.
@@ -187,7 +188,7 @@ module _ (t : Trace) where
 
     answer-found : (n : ℕ) → CheckAnswer t a b ρ n → check t a b ρ ≡ n
     unfolding check
-    answer-found n (accepted e c) = rw (correct-clean [] ρ (c .correct), true-enabled ρ a (c .first), true-enabled ρ b (c .second)) (sym e)
+    answer-found n (accepted e c) = rw (correct-clean [] ρ (c .correct), true-enabled ρ a (c .enabled a (in-pair-a a b)), true-enabled ρ b (c .enabled b (in-pair-b a b))) (sym e)
     answer-found n (first-fault σ k s c f) =
         let ne = fault-nonzero (reverse σ) k n f in
         let e : faultFrom t [] ρ ≡ n = rw (s .1) (fault-at [] σ k (s .0) n c (fault-found (reverse σ) k n f) ne) in

@@ -9,15 +9,15 @@ use mathlib.Core.List.{List, [], _∷_, _++_, List·Memᴰ, List·Memᴰ·head, 
 use lib.Dec.{eqb, ltb}
 use borrow.Author.Tests.{eqb-true, eqb-false, eq-eqb, ne-eqb, ltb-true, lt-ltb, not-true}
 use Rattle.model.specs.Trace.{Trace, read, write, threadOf, kindOf, objectOf}
-use Rattle.model.specs.Lists.{_∈_, numbers}
+use Rattle.model.specs.Lists.{_∈_, numbers, pair}
 use Rattle.model.specs.Good.{WellFormed}
-use Rattle.model.specs.Race.{Access, Conflicting, Increasing, Reported, Witness, pair}
+use Rattle.model.specs.Race.{Access, Conflicting, Increasing, Reported, Witness}
 use Rattle.model.specs.Check.{isValid}
 use Rattle.model.specs.Listing.{Race, RaceOf, After, Sorted, Listing, FirstAfter}
 use Rattle.model.specs.Decision.{witness, isAccess, isConflicting, raceWith, raceOn, each, races, isAfter, firstAfter, nextRace}
 use Rattle.model.proofs.Tests.{by-cases, in-cons, clash, both, true-both, either-true, true-either}
 use Rattle.model.proofs.Lists.{numbers-mem, increasing-numbers}
-use Rattle.model.proofs.Threads.{pair-valid}
+use Rattle.model.proofs.Threads.{conflicting-apart}
 use Rattle.model.proofs.CheckExact.{valid-true, true-valid}
 use Rattle.model.proofs.SearchExact.{search-exactly, search-none}
 
@@ -25,13 +25,13 @@ use Rattle.model.proofs.SearchExact.{search-exactly, search-none}
 
 module _ (t : Trace) (w : WellFormed t) (a b : ℕ) (c : Conflicting t a b) where
   pub witness-exactly : (ρ : List ℕ) → (witness t a b ≡ some ρ) ↔ Witness t a b ρ
-  witness-exactly ρ = search-exactly t (pair a b) (threadOf t a) (pair-valid t a b (c .apart)) w ρ
+  witness-exactly ρ = search-exactly t (pair a b) (threadOf t a) (conflicting-apart t a b c .valid) w ρ
 
   pub reported-answered : Reported t a b ↔ ((ρ : List ℕ) × (witness t a b ≡ some ρ))
   reported-answered = ((λ r. go r (witness t a b) refl), (λ x. (x .0, witness-exactly (x .0) .0 (x .1) .candidate)))
     where
       go : Reported t a b → (o : Option (List ℕ)) → witness t a b ≡ o → (ρ : List ℕ) × (witness t a b ≡ some ρ)
-      go r none e = absurd (search-none t (pair a b) (threadOf t a) (pair-valid t a b (c .apart)) w .0 e (r .0) (r .1))
+      go r none e = absurd (search-none t (pair a b) (threadOf t a) (conflicting-apart t a b c .valid) w .0 e (r .0) (r .1))
       go r (some ρ) e = (ρ, e)
 
   -- a pair is reported exactly when it has a witness
@@ -61,7 +61,9 @@ module _ (t : Trace) where
         let y = both (isAccess t b) _ (x .1) in
         let u = both (eqb (objectOf t a) (objectOf t b)) _ (y .1) in
         record {
-          apart = record { first = valid-true t a (p .0); second = valid-true t b (q .0); threads = eqb-false _ _ (not-true _ (s .0)) };
+          first = valid-true t a (p .0);
+          second = valid-true t b (q .0);
+          threads = eqb-false _ _ (not-true _ (s .0));
           lower = ltb-true a b (r .0);
           accesses = (access-true a (x .0), access-true b (y .0));
           cell = eqb-true _ _ (u .0);
@@ -69,10 +71,10 @@ module _ (t : Trace) where
         }),
     (λ c.
         rw (
-          true-valid t a (c .apart .first),
-          true-valid t b (c .apart .second),
+          true-valid t a (c .first),
+          true-valid t b (c .second),
           lt-ltb a b (c .lower),
-          ne-eqb _ _ (c .apart .threads),
+          ne-eqb _ _ (c .threads),
           true-access a (c .accesses .0),
           true-access b (c .accesses .1),
           eq-eqb _ _ (c .cell),
@@ -172,7 +174,7 @@ module _ (t : Trace) where
             of-at x (r .0) (s .0) (s .1)),
         (λ r.
             let c = r .conflicting in
-            each-mem row x (numbers-mem t (x .lower) (c .apart .first)) (each-mem (λ b. raceOn t (x .lower) b) x (numbers-mem t (x .higher) (c .apart .second))
+            each-mem row x (numbers-mem t (x .lower) (c .first)) (each-mem (λ b. raceOn t (x .lower) b) x (numbers-mem t (x .higher) (c .second))
             (race-on x c (witness-exactly t w (x .lower) (x .higher) c (x .witness) .1 (r .shown))))),
       );
       sorted = races-sorted;

@@ -4,14 +4,14 @@ use mathlib.Core.Path.{_≡_, refl, sym}
 use mathlib.Core.Logic.{_⊎_, inl, inr, ⊎-elim}
 use mathlib.Core.List.{List, [], _∷_, reverse, nil≢cons, head-eq-of-cons-eq, tail-eq-of-cons-eq}
 use Rattle.model.specs.Trace.{Trace, Valid, threadOf}
-use Rattle.model.specs.Lists.{_∈_, only, own, is, but}
-use Rattle.model.specs.Reordering.{EnabledAfter, BringsBoth}
+use Rattle.model.specs.Lists.{_∈_, only, own, is, but, pair}
+use Rattle.model.specs.Reordering.{BringsAll, BringsBoth}
 use Rattle.model.specs.Cone.{root}
-use Rattle.model.specs.Race.{Apart, Candidate, Preferred, Shown, Witness, Conflicting, pair}
+use Rattle.model.specs.Race.{Candidate, Preferred, Shown, Witness, Conflicting}
 use Rattle.model.proofs.Tests.{by-cases, is-true, is-false, true-but, false-but}
 use Rattle.model.proofs.Lists.{mem-reverse, reverse-mem}
 use Rattle.model.proofs.Histories.{to-legal, enabled-by}
-use Rattle.model.proofs.Threads.{in-pair-a, in-pair-b}
+use Rattle.model.proofs.Threads.{conflicting-apart}
 
 not-both-ways : (t : Trace) (m : ℕ) (ρ τ : List ℕ) → Preferred t m ρ τ → Preferred t m τ ρ → ⊥
 not-both-ways t m [] τ f g = f
@@ -63,18 +63,14 @@ module _ (t : Trace) (m : ℕ) where
       same-head x y ρ τ (head-eq-of-cons-eq d) (same-sides ρ τ (rw (e, f) at p) (tail-eq-of-cons-eq d))))
 
 -- a candidate brings each root next
-candidate-next : (t : Trace) (R : List ℕ) (m : ℕ) (ρ : List ℕ) → Candidate t R m ρ → (r : ℕ) → r ∈ R → Valid t r → EnabledAfter t ρ r
-candidate-next t R m ρ c r x v =
-    enabled-by t (reverse ρ) (to-legal t ρ (c .correct)) r v
-    (λ n. c .roots-out r x (c .members r .0 (mem-reverse r ρ n)))
-    (λ k p q e. reverse-mem (c .members k .1 (root x (record { first = p; less = q; thread = e }))))
-
-pub candidate-brings : (t : Trace) (a b m : ℕ) (ρ : List ℕ) → Apart t a b → Candidate t (pair a b) m ρ → BringsBoth t ρ a b
-candidate-brings t a b m ρ c d = record {
-  correct = d .correct;
-  first = candidate-next t (pair a b) m ρ d a (in-pair-a a b) (c .first);
-  second = candidate-next t (pair a b) m ρ d b (in-pair-b a b) (c .second);
+pub candidate-brings : (t : Trace) (R : List ℕ) (m : ℕ) (ρ : List ℕ) → ((r : ℕ) → r ∈ R → Valid t r) → Candidate t R m ρ → BringsAll t ρ R
+candidate-brings t R m ρ v c = record {
+  correct = c .correct;
+  enabled = λ r x.
+      enabled-by t (reverse ρ) (to-legal t ρ (c .correct)) r (v r x)
+      (λ n. c .roots-out r x (c .members r .0 (mem-reverse r ρ n)))
+      (λ k p q e. reverse-mem (c .members k .1 (root x (record { first = p; less = q; thread = e }))));
 }
 
 pub witness-brings-both : (t : Trace) (a b : ℕ) (ρ : List ℕ) → Conflicting t a b → Witness t a b ρ → BringsBoth t ρ a b
-witness-brings-both t a b ρ c s = candidate-brings t a b (threadOf t a) ρ (c .apart) (s .candidate)
+witness-brings-both t a b ρ c s = candidate-brings t (pair a b) (threadOf t a) ρ (conflicting-apart t a b c .valid) (s .candidate)

@@ -1,13 +1,14 @@
 -- The threads counted are different, and are those that have an event.
 use Prim.Native.Nat.{ℕ, zero, suc, _≤_, _<_}
 use native.Mathlib.Omega.{arith}
-use mathlib.Core.Path.{_≡_, refl, sym, _∙_}
-use mathlib.Core.Logic.{_≢_, _⊎_, inl, inr, _↔_}
-use mathlib.Core.List.{List, [], _∷_, List·Memᴰ·head, List·Memᴰ·tail, List·Memᴰ·not-nil, List·Memᴰ·eq-of-singleton}
+use mathlib.Core.Path.{_≡_, refl, sym, _∙_, ap}
+use mathlib.Core.Logic.{_≢_, _⊎_, inl, inr, ⊎-elim, _↔_}
+use mathlib.Core.List.{List, [], _∷_, map, List·Memᴰ·head, List·Memᴰ·tail, List·Memᴰ·not-nil, List·Memᴰ·eq-of-singleton}
 use lib.ListN.{length, getD}
 use Rattle.model.specs.Trace.{Trace, Event, Valid, noEvent, threadOf}
-use Rattle.model.specs.Lists.{_∈_, Distinct, TwoThreads, listed, threads}
-use Rattle.model.specs.Race.{Apart, pair}
+use Rattle.model.specs.Lists.{_∈_, Distinct, TwoThreads, OnlyBeside, listed, threads, pair}
+use Rattle.model.specs.Cone.{AllInside}
+use Rattle.model.specs.Race.{Apart, Conflicting}
 use Rattle.model.proofs.Tests.{by-cases, in-cons, clash}
 use Rattle.model.proofs.Lists.{mem-listed, listed-mem}
 
@@ -66,8 +67,26 @@ in-pair-a a b = List·Memᴰ·head refl
 pub in-pair-b : (a b : ℕ) → b ∈ pair a b
 in-pair-b a b = List·Memᴰ·tail (List·Memᴰ·head refl)
 
-pub pair-valid : (t : Trace) (a b : ℕ) → Apart t a b → (r : ℕ) → r ∈ pair a b → Valid t r
-pair-valid t a b c r m = mem-pair m (λ e. rw e (c .first)) (λ e. rw e (c .second))
+pub for-pair : (G : ℕ → Type 0) {a b : ℕ} → G a → G b → (r : ℕ) → r ∈ pair a b → G r
+for-pair G x y r m = mem-pair m (λ e. rw e x) (λ e. rw e y)
+
+pub conflicting-apart : (t : Trace) (a b : ℕ) → Conflicting t a b → Apart t (pair a b)
+conflicting-apart t a b c = record {
+  valid = for-pair (Valid t) (c .first) (c .second);
+  threads = ((λ m. c .threads (List·Memᴰ·eq-of-singleton m)), (List·Memᴰ·not-nil, tt));
+}
+
+-- roots by one thread are the same
+pub apart-same : (t : Trace) (R : List ℕ) → Distinct (map (λ r. threadOf t r) R) → (q r : ℕ) → q ∈ R → r ∈ R → threadOf t q ≡ threadOf t r → q ≡ r
+apart-same t [] d q r m n e = absurd (List·Memᴰ·not-nil m)
+apart-same t (x ∷ R) d q r m n e =
+    in-cons m
+    (λ p. in-cons n (λ o. p ∙ sym o) (λ o. absurd (d .0 (thread-of R x r (ap (threadOf t) (sym p) ∙ e) o))))
+    (λ p. in-cons n (λ o. absurd (d .0 (thread-of R x q (ap (threadOf t) (sym o) ∙ sym e) p))) (λ o. apart-same t R (d .1) q r p o e))
+  where
+    thread-of : (l : List ℕ) (i j : ℕ) → threadOf t i ≡ threadOf t j → j ∈ l → threadOf t i ∈ map (λ r. threadOf t r) l
+    thread-of [] i j p m = absurd (List·Memᴰ·not-nil m)
+    thread-of (y ∷ l) i j p m = in-cons m (λ o. List·Memᴰ·head (p ∙ ap (threadOf t) o)) (λ o. List·Memᴰ·tail (thread-of l i j p o))
 
 -- beside two different members of a list of at most two there is no third
 no-third : (l : List ℕ) → length l ≤ 2 → (a b c : ℕ) → a ≢ b → a ∈ l → b ∈ l → c ∈ l → (c ≡ a) ⊎ (c ≡ b)
@@ -80,6 +99,14 @@ no-third (u ∷ v ∷ []) p a b c ne x y z =
 no-third (u ∷ v ∷ w ∷ l) p a b c ne x y z = absurd (omega arith)
 
 -- in a trace by at most two threads every event is by the thread of one or the other
-pub two-threads : (t : Trace) (a b : ℕ) → TwoThreads t → Apart t a b → (k : ℕ) → Valid t k → (threadOf t k ≡ threadOf t a) ⊎ (threadOf t k ≡ threadOf t b)
-two-threads t a b two c k v =
-    no-third (threads t) two (threadOf t a) (threadOf t b) (threadOf t k) (c .threads) (thread-mem t a (c .first)) (thread-mem t b (c .second)) (thread-mem t k v)
+module _ (t : Trace) (a b : ℕ) (two : TwoThreads t) (c : Apart t (pair a b)) where
+  two-threads : (k : ℕ) → Valid t k → (threadOf t k ≡ threadOf t a) ⊎ (threadOf t k ≡ threadOf t b)
+  two-threads k v =
+      no-third (threads t) two (threadOf t a) (threadOf t b) (threadOf t k) (λ e. c .threads .0 (List·Memᴰ·head e))
+      (thread-mem t a (c .valid a (in-pair-a a b))) (thread-mem t b (c .valid b (in-pair-b a b))) (thread-mem t k v)
+
+  pub two-inside : AllInside t (pair a b)
+  two-inside k v = ⊎-elim (λ e. (a, in-pair-a a b, sym e)) (λ e. (b, in-pair-b a b, sym e)) (two-threads k v)
+
+  pub two-beside : OnlyBeside t (threadOf t a) (threadOf t b)
+  two-beside k v ne = ⊎-elim (λ e. absurd (ne e)) (λ e. e) (two-threads k v)

@@ -1,60 +1,65 @@
--- For a trace by at most two threads a pair is reported exactly when some correct reordering,
--- of the trace or of an extension, brings both accesses next.
-use Prim.Native.Nat.{ℕ, _≤_, _<_}
+-- Where all events are by the roots' threads, and those outside the moved thread by one other, as in a trace by at most two threads,
+-- the roots are reported exactly when some correct reordering, of the trace or of an extension, brings all of them next.
+use Prim.Native.Nat.{ℕ, _≤_}
 use native.Mathlib.Omega.{arith}
 use mathlib.Core.Path.{_≡_, sym, _∙_}
-use mathlib.Core.Logic.{_≢_, _⊎_, inl, inr, ⊎-elim, _↔_}
-use mathlib.Core.Bool.{Bool, true, _||_}
+use mathlib.Core.Logic.{inl, inr, _↔_}
+use mathlib.Core.Bool.{Bool, true}
 use mathlib.Core.List.{List, [], reverse, append-nil}
 use lib.ListN.{length}
 use lib.Dec.{eqb}
-use borrow.Author.Tests.{eqb-true, eqb-false}
+use borrow.Author.Tests.{eqb-true, eqb-false, eq-eqb}
 use Rattle.model.specs.Trace.{Trace, Valid, threadOf}
-use Rattle.model.specs.Lists.{_∈_, TwoThreads, upTo, only, own, is, but}
+use Rattle.model.specs.Lists.{_∈_, TwoThreads, OnlyBeside, anyIn, only, own, is, but, pair}
 use Rattle.model.specs.Observed.{observed}
 use Rattle.model.specs.Good.{Good}
-use Rattle.model.specs.Reordering.{Enabled}
-use Rattle.model.specs.Cone.{InCone, Brings, Earlier, root, brought, earlier, observes, closes}
-use Rattle.model.specs.Race.{Apart, Candidate, Reported, Increasing, pair}
-use Rattle.model.specs.Extension.{Extension, PredictableInExtension}
-use Rattle.model.proofs.Tests.{by-cases, either-true, true-either, is-true, true-is, false-is, true-but, false-but}
-use Rattle.model.proofs.Lists.{mem-only, only-mem, keep-same, keep-reverse, mem-reverse, reverse-mem, increasing-reverse}
-use Rattle.model.proofs.Histories.{Legal, to-legal, of-legal, beginning, enabled-mem, mem-enabled, observed-range, legal-observed}
+use Rattle.model.specs.Reordering.{Enabled, Correct}
+use Rattle.model.specs.Cone.{InCone, Brings, Earlier, AllInside, root, brought, earlier, observes, closes}
+use Rattle.model.specs.Race.{Apart, Candidate, Increasing, Reported, ReportedWith}
+use Rattle.model.specs.Extension.{Extension, TogetherInExtension, PredictableInExtension}
+use Rattle.model.proofs.Tests.{by-cases, true-is, but-true}
+use Rattle.model.proofs.Lists.{any-mem, mem-any, mem-only, only-mem, keep-keep, mem-reverse, reverse-mem, increasing-keep}
+use Rattle.model.proofs.Histories.{Legal, to-legal, of-legal, legal-valid, own-increasing, enabled-mem, mem-enabled, observed-range, legal-observed}
 use Rattle.model.proofs.Locks.{locked, legal-only}
 use Rattle.model.proofs.Agree.{same-thread, legal-agree, extension-agree}
-use Rattle.model.proofs.Threads.{mem-pair, in-pair-a, in-pair-b, two-threads}
+use Rattle.model.proofs.Threads.{apart-same, two-inside, two-beside}
 use Rattle.model.proofs.OneShown.{candidate-brings}
+use Rattle.model.proofs.ConeExact.{earlier-valid}
 
--- the set of two threads
-unfoldable among : ℕ → ℕ → ℕ → Bool
-among c d e = is c e || is d e
+-- the set of the roots' threads
+unfoldable among : Trace → List ℕ → ℕ → Bool
+among t R c = anyIn (λ r. eqb (threadOf t r) c) R
 
-among-true : (c d e : ℕ) → among c d e ≡ true → (e ≡ c) ⊎ (e ≡ d)
+among-true : (t : Trace) (R : List ℕ) (c : ℕ) → among t R c ≡ true → (r : ℕ) × (r ∈ R) × (threadOf t r ≡ c)
 unfolding among
-among-true c d e p = ⊎-elim (λ q. inl (is-true c e q)) (λ q. inr (is-true d e q)) (either-true (is c e) (is d e) p)
+among-true t R c e = let x = mem-any (λ r. eqb (threadOf t r) c) R e in (x .0, x .1, eqb-true _ _ (x .2))
 
-true-among : (c d e : ℕ) → (e ≡ c) ⊎ (e ≡ d) → among c d e ≡ true
+true-among : (t : Trace) (R : List ℕ) (c r : ℕ) → r ∈ R → threadOf t r ≡ c → among t R c ≡ true
 unfolding among
-true-among c d e p = true-either (is c e) (is d e) (⊎-elim (λ q. inl (true-is c e q)) (λ q. inr (true-is d e q)) p)
+true-among t R c r m e = any-mem (λ r. eqb (threadOf t r) c) m (eq-eqb _ _ e)
 
--- k stands before a or before b in its thread
-abbrev Near : Trace → ℕ → ℕ → ℕ → Type 0
-Near t a b k = Earlier t k a ⊎ Earlier t k b
+-- k stands before a root in its thread
+abbrev Near : Trace → List ℕ → ℕ → Type 0
+Near t R k = (r : ℕ) × (r ∈ R) × Earlier t k r
 
-near-less : (t : Trace) (a b k : ℕ) → Near t a b k → (1 ≤ k) × ((k < a) ⊎ (k < b))
-near-less t a b k x = ⊎-elim (λ e. (e .first, inl (e .less))) (λ e. (e .first, inr (e .less))) x
+near-earlier : (t : Trace) (R : List ℕ) (j k : ℕ) → Earlier t j k → Near t R k → Near t R j
+near-earlier t R j k e x =
+    let p = x .2 in
+    (x .0, x .1, record { first = e .first; less = let y = e .less in let z = p .less in omega arith; thread = e .thread ∙ p .thread })
 
-near-earlier : (t : Trace) (a b j k : ℕ) → Earlier t j k → Near t a b k → Near t a b j
-near-earlier t a b j k e x = ⊎-elim (λ p. inl (chain a p)) (λ p. inr (chain b p)) x
-  where
-    chain : (r : ℕ) → Earlier t k r → Earlier t j r
-    chain r p = record { first = e .first; less = let y = e .less in let z = p .less in omega arith; thread = e .thread ∙ p .thread }
+-- where all events outside the moved thread are by one thread, their order asks nothing
+order-kept : (t : Trace) (m d : ℕ) → OnlyBeside t m d → (ρ : List ℕ) → Correct t ρ → Increasing (only t (but m) ρ)
+order-kept t m d beside ρ c =
+    let v : (k : ℕ) → k ∈ ρ → Valid t k = λ k n. legal-valid t (reverse ρ) (to-legal t ρ c) k (reverse-mem n) in
+    let e : only t (but m) (own t d ρ) ≡ only t (but m) ρ =
+    keep-keep (λ k. but m (threadOf t k)) (λ k. is d (threadOf t k)) ρ (λ k n p. true-is d (threadOf t k) (beside k (v k n) (but-true m (threadOf t k) p))) in
+    rw e at (increasing-keep (λ k. but m (threadOf t k)) (own t d ρ) (own-increasing t d ρ c))
 
--- Let a history of an extension t′ have both a and b enabled. What it has of the two threads is a candidate.
-module _ (t : Trace) (two : TwoThreads t) (a b : ℕ) (c : Apart t a b) (t′ : Trace) (long : Extension t t′)
-    (h : List ℕ) (l : Legal t′ h) (ea : Enabled t′ h a) (eb : Enabled t′ h b) where
+-- Let a history of an extension t′ have all roots enabled. What it has of the roots' threads is a candidate.
+module _ (t : Trace) (R : List ℕ) (c : Apart t R) (inside : AllInside t R) (t′ : Trace) (long : Extension t t′)
+    (h : List ℕ) (l : Legal t′ h) (en : (r : ℕ) → r ∈ R → Enabled t′ h r) where
   abbrev s : ℕ → Bool
-  s = among (threadOf t a) (threadOf t b)
+  s = among t R
 
   abbrev kept : List ℕ
   kept = only t′ s h
@@ -62,35 +67,33 @@ module _ (t : Trace) (two : TwoThreads t) (a b : ℕ) (c : Apart t a b) (t′ : 
   same : (k : ℕ) → k ≤ length t → threadOf t k ≡ threadOf t′ k
   same = same-thread t t′ (length t) (extension-agree t t′ long)
 
-  before-root : (r : ℕ) → Valid t r → Enabled t′ h r → (k : ℕ) → k ∈ h → threadOf t′ k ≡ threadOf t r → Earlier t k r
-  before-root r v e k m p =
-      let z = enabled-mem t′ h r (e .next) k m (p ∙ same r (v .bounded)) in
-      let y = v .bounded in
+  before-root : (r : ℕ) → r ∈ R → (k : ℕ) → k ∈ h → threadOf t′ k ≡ threadOf t r → Earlier t k r
+  before-root r i k m p =
+      let y = c .valid r i .bounded in
+      let z = enabled-mem t′ h r (en r i .next) k m (p ∙ same r y) in
       record { first = z .0; less = z .1; thread = same k (omega arith) ∙ p }
 
-  root-before : (r : ℕ) → Valid t r → Enabled t′ h r → (k : ℕ) → Earlier t k r → k ∈ h
-  root-before r v e k x =
-      let y = v .bounded in
+  root-before : (r : ℕ) → r ∈ R → (k : ℕ) → Earlier t k r → k ∈ h
+  root-before r i k x =
+      let y = c .valid r i .bounded in
       let z = x .less in
-      mem-enabled t′ h r (e .next) k (x .first) (x .less) (sym (same k (omega arith)) ∙ x .thread ∙ same r (v .bounded))
+      mem-enabled t′ h r (en r i .next) k (x .first) (x .less) (sym (same k (omega arith)) ∙ x .thread ∙ same r y)
 
-  near-valid : (k : ℕ) → Near t a b k → Valid t k
-  near-valid k x =
-      let n = near-less t a b k x in
-      record { positive = n .0; bounded = let y = c .first .bounded in let z = c .second .bounded in ⊎-elim (λ p. omega arith) (λ p. omega arith) (n .1) }
+  near-valid : (k : ℕ) → Near t R k → Valid t k
+  near-valid k x = earlier-valid t k (x .0) (c .valid (x .0) (x .1)) (x .2)
 
-  -- the history's events of the two threads are those before a and those before b
-  mem-near : (k : ℕ) → k ∈ h → s (threadOf t′ k) ≡ true → Near t a b k
-  mem-near k m p = ⊎-elim (λ e. inl (before-root a (c .first) ea k m e)) (λ e. inr (before-root b (c .second) eb k m e)) (among-true (threadOf t a) (threadOf t b) (threadOf t′ k) p)
+  -- the history's events of the roots' threads are those before the roots
+  mem-near : (k : ℕ) → k ∈ h → s (threadOf t′ k) ≡ true → Near t R k
+  mem-near k m p = let x = among-true t R (threadOf t′ k) p in (x .0, x .1, before-root (x .0) (x .1) k m (sym (x .2)))
 
-  kept-near : (k : ℕ) → k ∈ kept → Near t a b k
+  kept-near : (k : ℕ) → k ∈ kept → Near t R k
   kept-near k m = let x = mem-only t′ s k h m in mem-near k (x .0) (x .1)
 
   known : (k : ℕ) → Valid t k → s (threadOf t′ k) ≡ true
-  known k v = let e = same k (v .bounded) in rw (← e) (true-among (threadOf t a) (threadOf t b) (threadOf t k) (two-threads t a b two c k v))
+  known k v = let x = inside k v in true-among t R (threadOf t′ k) (x .0) (x .1) (x .2 ∙ same k (v .bounded))
 
-  near-kept : (k : ℕ) → Near t a b k → k ∈ kept
-  near-kept k x = only-mem t′ s (⊎-elim (λ e. root-before a (c .first) ea k e) (λ e. root-before b (c .second) eb k e) x) (known k (near-valid k x))
+  near-kept : (k : ℕ) → Near t R k → k ∈ kept
+  near-kept k x = only-mem t′ s (root-before (x .0) (x .1) k (x .2)) (known k (near-valid k x))
 
   kept-legal : Legal t kept
   kept-legal =
@@ -102,57 +105,37 @@ module _ (t : Trace) (two : TwoThreads t) (a b : ℕ) (c : Apart t a b) (t′ : 
       let v = near-valid k (mem-near k m p) .bounded in
       inr (known (observed t′ k) (record { positive = w .0; bounded = omega arith })))))
 
-  not-outside : (k : ℕ) → Valid t k → ((r : ℕ) → r ∈ pair a b → threadOf t r ≢ threadOf t k) → ⊥
-  not-outside k v out = ⊎-elim (λ p. out a (in-pair-a a b) (sym p)) (λ p. out b (in-pair-b a b) (sym p)) (two-threads t a b two c k v)
-
-  brings-kept : (k j : ℕ) → k ∈ kept → Brings t (pair a b) k j → j ∈ kept
-  brings-kept k j m (earlier e) = near-kept j (near-earlier t a b j k e (kept-near k m))
+  brings-kept : (k j : ℕ) → k ∈ kept → Brings t R k j → j ∈ kept
+  brings-kept k j m (earlier e) = near-kept j (near-earlier t R j k e (kept-near k m))
   brings-kept k j m (observes r o ne) = rw o at (legal-observed t kept kept-legal k m r (rw o ne))
-  brings-kept k j m (closes r out o ne) = absurd (not-outside k (near-valid k (kept-near k m)) out)
+  brings-kept k j m (closes r out o ne) = let x = inside k (near-valid k (kept-near k m)) in absurd (out (x .0) (x .1) (x .2))
 
-  cone-kept : {k : ℕ} → InCone t (pair a b) k → k ∈ kept
-  cone-kept {k} (root {r = r} m e) = near-kept k (mem-pair m (λ p. inl (rw p at e)) (λ p. inr (rw p at e)))
+  cone-kept : {k : ℕ} → InCone t R k → k ∈ kept
+  cone-kept {k} (root {r = r} m e) = near-kept k (r, m, e)
   cone-kept {k = j} (brought {k = k} x b) = brings-kept k j (cone-kept x) b
 
-  root-not-near : (r : ℕ) → r ∈ pair a b → Near t a b r → ⊥
-  root-not-near r m x =
-      mem-pair m
-      (λ p. ⊎-elim (λ e. let y = e .less in omega arith) (λ e. c .threads (rw p at (e .thread))) x)
-      (λ p. ⊎-elim (λ e. c .threads (sym (rw p at (e .thread)))) (λ e. let y = e .less in omega arith) x)
+  root-not-near : (r : ℕ) → r ∈ R → Near t R r → ⊥
+  root-not-near r m x = let e = apart-same t R (c .threads) r (x .0) m (x .1) (x .2 .thread) in let y = x .2 .less in omega arith
 
-  -- outside a's thread there is only b's
-  kept-order : Increasing (only t (but (threadOf t a)) (reverse kept))
-  kept-order =
-      let A = threadOf t a in
-      let B = threadOf t b in
-      let g = beginning t kept kept-legal B in
-      let q : only t (but A) kept ≡ own t B (upTo (g .0)) =
-      keep-same (λ k. but A (threadOf t k)) (λ k. is B (threadOf t k)) kept (λ k m.
-      ⊎-elim
-      (λ p. false-but A (threadOf t k) p ∙ sym (false-is B (threadOf t k) (λ z. c .threads (sym p ∙ z))))
-      (λ p. true-but A (threadOf t k) (λ z. c .threads (sym z ∙ p)) ∙ sym (true-is B (threadOf t k) p))
-      (two-threads t a b two c k (near-valid k (kept-near k m)))) ∙ g .2 in
-      rw (keep-reverse (λ k. but A (threadOf t k)) kept, q) (increasing-reverse (λ k. is B (threadOf t k)) (g .0))
-
-  kept-candidate : Candidate t (pair a b) (threadOf t a) (reverse kept)
-  kept-candidate = record {
-    roots-out = λ r m x. root-not-near r m (kept-near r (cone-kept x));
+  kept-candidate : (m d : ℕ) → OnlyBeside t m d → Candidate t R m (reverse kept)
+  kept-candidate m d beside = record {
+    roots-out = λ r i x. root-not-near r i (kept-near r (cone-kept x));
     correct = of-legal t kept kept-legal;
-    members = λ k. (
-      (λ m. ⊎-elim (λ e. root (in-pair-a a b) e) (λ e. root (in-pair-b a b) e) (kept-near k (mem-reverse k kept m))),
-      (λ x. reverse-mem (cone-kept x)),
-    );
-    order = kept-order;
+    members = λ k. ((λ i. let x = kept-near k (mem-reverse k kept i) in root (x .1) (x .2)), (λ x. reverse-mem (cone-kept x)));
+    order = order-kept t m d beside (reverse kept) (of-legal t kept kept-legal);
   }
 
 pub empty-extension : (t : Trace) → Good t → Extension t t
 empty-extension t g = record { added = []; same = sym (append-nil t); good = g }
 
-pub two-threads-exact : (t : Trace) → Good t → TwoThreads t → (a b : ℕ) → Apart t a b → Reported t a b ↔ PredictableInExtension t a b
-two-threads-exact t g two a b c = (
-  (λ r. (t, empty-extension t g, (r .0, candidate-brings t a b (threadOf t a) (r .0) c (r .1)))),
+pub roots-exact : (t : Trace) → Good t → (R : List ℕ) → Apart t R → AllInside t R → (m d : ℕ) → OnlyBeside t m d → ReportedWith t R m ↔ TogetherInExtension t R
+roots-exact t g R c inside m d beside = (
+  (λ r. (t, empty-extension t g, (r .0, candidate-brings t R m (r .0) (c .valid) (r .1)))),
   (λ p.
       let ρ = p .2 .0 in
-      let d = p .2 .1 in
-      (_, kept-candidate t two a b c (p .0) (p .1) (reverse ρ) (to-legal (p .0) ρ (d .correct)) (d .first) (d .second))),
+      let b = p .2 .1 in
+      (_, kept-candidate t R c inside (p .0) (p .1) (reverse ρ) (to-legal (p .0) ρ (b .correct)) (b .enabled) m d beside)),
 )
+
+pub two-threads-exact : (t : Trace) → Good t → TwoThreads t → (a b : ℕ) → Apart t (pair a b) → Reported t a b ↔ PredictableInExtension t a b
+two-threads-exact t g two a b c = roots-exact t g (pair a b) c (two-inside t a b two c) (threadOf t a) (threadOf t b) (two-beside t a b two c)

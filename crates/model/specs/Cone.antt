@@ -5,7 +5,7 @@ use mathlib.Core.Logic.{_≢_}
 use mathlib.Core.Bool.{Bool, cond, _&&_}
 use mathlib.Core.List.{List}
 use lib.Dec.{eqb, ltb}
-use Rattle.model.specs.Trace.{Trace, read, acquire, threadOf, kindOf, objectOf}
+use Rattle.model.specs.Trace.{Trace, Valid, read, acquire, threadOf, kindOf, objectOf}
 use Rattle.model.specs.Lists.{_∈_, nearest, numbers}
 use Rattle.model.specs.Observed.{observed}
 use Rattle.model.specs.Sections.{isOutermost, isLast}
@@ -26,6 +26,14 @@ matching t k = cond (isOutermost t k) (nearest (λ j. givesBack t k j) (numbers 
 -- k is by a thread that is none of the roots'
 abbrev pub Outside : Trace → List ℕ → ℕ → Type 0
 Outside t R k = (r : ℕ) → r ∈ R → threadOf t r ≢ threadOf t k
+
+-- k is by a root's thread
+abbrev pub Inside : Trace → List ℕ → ℕ → Type 0
+Inside t R k = (r : ℕ) × (r ∈ R) × (threadOf t r ≡ threadOf t k)
+
+-- every event of the trace is
+abbrev pub AllInside : Trace → List ℕ → Type 0
+AllInside t R = (k : ℕ) → Valid t k → Inside t R k
 
 -- Causal cone of the roots R (of a pair: a and b): the least set with rules (i) to (iv). The roots' threads are exempt from rule (iv).
 

@@ -6,8 +6,7 @@ use mathlib.Core.List.{List, [], _∷_, _++_}
 use lib.ListN.{length}
 use lib.Dec.{eqb, ltb}
 use Rattle.model.specs.Trace.{Trace, read, write, threadOf, kindOf, objectOf}
-use Rattle.model.specs.Lists.{own, only, but, anyIn, listed, numbers}
-use Rattle.model.specs.Race.{pair}
+use Rattle.model.specs.Lists.{own, only, but, anyIn, listed, numbers, pair}
 use Rattle.model.specs.Check.{isValid}
 use Rattle.model.specs.Listing.{Race}
 use Rattle.model.specs.Rounds.{cone}

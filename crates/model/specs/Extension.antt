@@ -1,10 +1,11 @@
 -- Extensions (the paper's lengthenings).
 use Prim.Native.Nat.{ℕ}
 use mathlib.Core.Path.{_≡_}
-use mathlib.Core.List.{_++_}
+use mathlib.Core.List.{List, _++_}
 use Rattle.model.specs.Trace.{Trace}
+use Rattle.model.specs.Lists.{pair}
 use Rattle.model.specs.Good.{Good}
-use Rattle.model.specs.Reordering.{Predictable}
+use Rattle.model.specs.Reordering.{Together}
 
 -- t′ extends t: the same events under the same numbers, then none or more after them, well-formed and within every limit.
 -- (The preamble may be any that a good file may have, the empty one too, so a file has room for as many events as a trace may have: the limit
@@ -14,6 +15,10 @@ pub record Extension (t t′ : Trace) : Type 0 where
   pub same : t′ ≡ t ++ added
   pub good : Good t′
 
--- some correct reordering, of the trace or of an extension, brings both accesses next
+-- some correct reordering, of the trace or of an extension, brings all of R next
+abbrev pub TogetherInExtension : Trace → List ℕ → Type 0
+TogetherInExtension t R = (t′ : Trace) × Extension t t′ × Together t′ R
+
+-- of a pair: brings both accesses next
 abbrev pub PredictableInExtension : Trace → ℕ → ℕ → Type 0
-PredictableInExtension t a b = (t′ : Trace) × Extension t t′ × Predictable t′ a b
+PredictableInExtension t a b = TogetherInExtension t (pair a b)

@@ -1,10 +1,12 @@
 -- Lists of event numbers, and the threads of a trace.
 use Prim.Native.Nat.{ℕ, zero, suc, _≤_}
+use mathlib.Core.Path.{_≡_}
+use mathlib.Core.Logic.{_≢_}
 use mathlib.Core.Bool.{Bool, true, false, cond, _||_, not}
 use mathlib.Core.List.{List, [], _∷_, reverse, List·Memᴰ}
 use lib.ListN.{length}
 use lib.Dec.{eqb}
-use Rattle.model.specs.Trace.{Trace, threadOf}
+use Rattle.model.specs.Trace.{Trace, Valid, threadOf}
 
 infix 4 _∈_
 abbrev pub _∈_ : ℕ → List ℕ → Type 0
@@ -47,6 +49,10 @@ anyIn p (k ∷ l) = p k || anyIn p l
 unfoldable pub listed : ℕ → List ℕ → Bool
 listed k l = anyIn (λ j. eqb k j) l
 
+-- two events
+abbrev pub pair : ℕ → ℕ → List ℕ
+pair a b = a ∷ b ∷ []
+
 -- ---- threads
 
 -- the events of a list by the threads of a set, by thread c, and by every thread but m
@@ -75,3 +81,7 @@ Distinct (x ∷ l) = ¬ (x ∈ l) × Distinct l
 -- a trace by at most two threads
 abbrev pub TwoThreads : Trace → Type 0
 TwoThreads t = length (threads t) ≤ 2
+
+-- all events outside thread m are by thread c
+abbrev pub OnlyBeside : Trace → ℕ → ℕ → Type 0
+OnlyBeside t m c = (k : ℕ) → Valid t k → threadOf t k ≢ m → threadOf t k ≡ c

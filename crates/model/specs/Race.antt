@@ -2,9 +2,9 @@
 use Prim.Native.Nat.{ℕ, _<_}
 use mathlib.Core.Path.{_≡_}
 use mathlib.Core.Logic.{_≢_, _⊎_, _↔_}
-use mathlib.Core.List.{List, [], _∷_}
+use mathlib.Core.List.{List, [], _∷_, map}
 use Rattle.model.specs.Trace.{Trace, Valid, read, write, threadOf, kindOf, objectOf}
-use Rattle.model.specs.Lists.{_∈_, only, but}
+use Rattle.model.specs.Lists.{_∈_, Distinct, only, but, pair}
 use Rattle.model.specs.Reordering.{Correct}
 use Rattle.model.specs.Cone.{InCone}
 
@@ -12,15 +12,11 @@ use Rattle.model.specs.Cone.{InCone}
 abbrev pub Access : Trace → ℕ → Type 0
 Access t k = (kindOf t k ≡ read) ⊎ (kindOf t k ≡ write)
 
--- two events of different threads: all that the two-thread theorems ask of a pair
-pub record Apart (t : Trace) (a b : ℕ) : Type 0 where
+-- conflicting pair: a lower than b, different threads, same cell, at least one a write
+pub record Conflicting (t : Trace) (a b : ℕ) : Type 0 where
   pub first : Valid t a
   pub second : Valid t b
   pub threads : threadOf t a ≢ threadOf t b
-
--- conflicting pair: a lower than b, different threads, same cell, at least one a write
-pub record Conflicting (t : Trace) (a b : ℕ) : Type 0 where
-  pub apart : Apart t a b
   pub lower : a < b
   pub accesses : Access t a × Access t b
   pub cell : objectOf t a ≡ objectOf t b
@@ -30,6 +26,12 @@ pub record Conflicting (t : Trace) (a b : ℕ) : Type 0 where
 abbrev pub Increasing : List ℕ → Type 0
 Increasing [] = Unit {0}
 Increasing (x ∷ l) = ((y : ℕ) → y ∈ l → x < y) × Increasing l
+
+-- events of different threads: all that the theorems ask of roots
+pub record Apart (t : Trace) (R : List ℕ) : Type 0 where
+  pub valid : (r : ℕ) → r ∈ R → Valid t r
+  -- no two are by one thread
+  pub threads : Distinct (map (λ r. threadOf t r) R)
 
 -- a reordering that reports the roots R, with thread m as the moved thread
 pub record Candidate (t : Trace) (R : List ℕ) (m : ℕ) (ρ : List ℕ) : Type 0 where
@@ -52,13 +54,13 @@ pub record Shown (t : Trace) (R : List ℕ) (m : ℕ) (ρ : List ℕ) : Type 0 w
   pub candidate : Candidate t R m ρ
   pub chosen : (τ : List ℕ) → Candidate t R m τ → (ρ ≡ τ) ⊎ Preferred t m ρ τ
 
--- of a pair (a, b), a's thread is the moved thread
-abbrev pub pair : ℕ → ℕ → List ℕ
-pair a b = a ∷ b ∷ []
+-- the roots are reported with thread m as the moved thread
+abbrev pub ReportedWith : Trace → List ℕ → ℕ → Type 0
+ReportedWith t R m = (ρ : List ℕ) × Candidate t R m ρ
 
--- reported (asked of a conflicting pair)
+-- reported (asked of a conflicting pair): of a pair (a, b), a's thread is the moved thread
 abbrev pub Reported : Trace → ℕ → ℕ → Type 0
-Reported t a b = (ρ : List ℕ) × Candidate t (pair a b) (threadOf t a) ρ
+Reported t a b = ReportedWith t (pair a b) (threadOf t a)
 
 -- witness: the reordering shown for (a, b)
 abbrev pub Witness : Trace → ℕ → ℕ → List ℕ → Type 0

@@ -1,11 +1,11 @@
--- Correct reordering, enabled events, and the lists that bring two events next.
+-- Correct reordering, enabled events, and the lists that bring events next.
 use Prim.Native.Nat.{ℕ}
 use mathlib.Core.Path.{_≡_}
 use mathlib.Core.Logic.{_≢_}
 use mathlib.Core.Bool.{true}
 use mathlib.Core.List.{List, [], _∷_, _++_, reverse}
 use Rattle.model.specs.Trace.{Trace, Valid, read, write, acquire, threadOf, kindOf, objectOf, does}
-use Rattle.model.specs.Lists.{_∈_, own, before, numbers}
+use Rattle.model.specs.Lists.{_∈_, own, before, numbers, pair}
 use Rattle.model.specs.Observed.{lastWrite, observed}
 use Rattle.model.specs.Good.{Free}
 
@@ -63,12 +63,19 @@ Correct t ρ = CorrectFrom t [] ρ
 abbrev pub EnabledAfter : Trace → List ℕ → ℕ → Type 0
 EnabledAfter t ρ k = Enabled t (reverse ρ) k
 
--- ρ is a correct reordering that brings both a and b next
-pub record BringsBoth (t : Trace) (ρ : List ℕ) (a b : ℕ) : Type 0 where
+-- ρ is a correct reordering that brings all of R next
+pub record BringsAll (t : Trace) (ρ R : List ℕ) : Type 0 where
   pub correct : Correct t ρ
-  pub first : EnabledAfter t ρ a
-  pub second : EnabledAfter t ρ b
+  pub enabled : (r : ℕ) → r ∈ R → EnabledAfter t ρ r
+
+-- there is such a reordering
+abbrev pub Together : Trace → List ℕ → Type 0
+Together t R = (ρ : List ℕ) × BringsAll t ρ R
+
+-- of two events: brings both a and b next
+abbrev pub BringsBoth : Trace → List ℕ → ℕ → ℕ → Type 0
+BringsBoth t ρ a b = BringsAll t ρ (pair a b)
 
 -- predictable race: there is such a reordering
 abbrev pub Predictable : Trace → ℕ → ℕ → Type 0
-Predictable t a b = (ρ : List ℕ) × BringsBoth t ρ a b
+Predictable t a b = Together t (pair a b)

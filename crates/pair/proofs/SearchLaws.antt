@@ -8,9 +8,8 @@ use mathlib.Core.List.{List, [], _∷_}
 use lib.ListN.{length, getD, take, length-reverse}
 use lib.Seq.{sets, sets-eq, length-take-le}
 use Rattle.model.specs.Trace.{Trace, Valid, threadOf}
-use Rattle.model.specs.Lists.{upTo, keep, only, is, but, listed, anyIn}
+use Rattle.model.specs.Lists.{upTo, keep, only, is, but, listed, anyIn, pair}
 use Rattle.model.specs.Good.{maxEvents}
-use Rattle.model.specs.Race.{pair}
 use Rattle.model.specs.Rounds.{cone}
 use Rattle.model.specs.Grid.{side, path}
 use Rattle.model.specs.Decision.{witness, shownFor}
@@ -18,7 +17,7 @@ use Rattle.model.proofs.Tests.{by-cases}
 use Rattle.model.proofs.Lists.{mem-keep, mem-only, mem-upTo, mem-reverse}
 use Rattle.model.proofs.LeastSet.{length-keep}
 use Rattle.model.proofs.Merges.{getD-mem}
-use Rattle.model.proofs.Threads.{mem-pair, in-pair-a, in-pair-b, pair-valid}
+use Rattle.model.proofs.Threads.{mem-pair, in-pair-a, in-pair-b, conflicting-apart}
 use Rattle.model.proofs.ListingExact.{conflicting-exactly}
 use Rattle.limits.specs.Limits.{areaBytes}
 use Rattle.bringing.specs.Bringing.{Roots}
@@ -141,13 +140,13 @@ module _ {t : Trace} {obs rel flags list area : List ℕ} (s : Searching t obs r
 
 module _ {t : Trace} {a b : ℕ} {prev obs rel list area : List ℕ} (q : Asked t a b prev obs rel list area) where
   pub valid-a : Valid t a
-  valid-a = conflicting-exactly t a b .0 (q .conflicting) .apart .first
+  valid-a = conflicting-exactly t a b .0 (q .conflicting) .first
 
   valid-b : Valid t b
-  valid-b = conflicting-exactly t a b .0 (q .conflicting) .apart .second
+  valid-b = conflicting-exactly t a b .0 (q .conflicting) .second
 
   roots : Roots t (pair a b)
-  roots = record { valid = pair-valid t a b (conflicting-exactly t a b .0 (q .conflicting) .apart) }
+  roots = record { valid = conflicting-apart t a b (conflicting-exactly t a b .0 (q .conflicting)) .valid }
 
   pub cone-ready : (flags : List ℕ) → length flags ≡ maxEvents + 1 → ConeReady t prev obs rel (pair a b) flags
   cone-ready flags l =

@@ -13,6 +13,7 @@ use Rattle.model.specs.Check.{accepted, first-fault, lower-not-enabled, higher-
 use Rattle.model.specs.Good.{Good, maxThread, maxObject}
 use Rattle.model.proofs.Merges.{passed-suc}
 use Rattle.model.proofs.CheckExact.{check-exactly}
+use Rattle.model.proofs.Threads.{for-pair}
 use Rattle.faults.specs.Passing.{Here, Knows, NextAnswer, PlaceAnswer, Passed}
 use Rattle.links.proofs.TableLaws.{table-new}
 
@@ -81,4 +82,4 @@ module _ {t : Trace} {list : List ℕ} {i : ℕ} {last writes locks : List ℕ} 
         pub passing-both : not v ≡ false → 0 ≡ check t a b list
         passing-both f =
             sym (check-exactly t a b list 0 .1
-            (accepted refl (record { correct = correct-whole; first = enabled-lower; second = record { next = nb .yes-next (reverse list) writes locks knows-whole (not-false v f) } })))
+            (accepted refl (record { correct = correct-whole; enabled = for-pair (Enabled t (reverse list)) enabled-lower (record { next = nb .yes-next (reverse list) writes locks knows-whole (not-false v f) }) })))
