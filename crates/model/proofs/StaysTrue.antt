@@ -12,7 +12,7 @@ use Rattle.model.specs.Race.{Apart, Conflicting, Witness}
 use Rattle.model.specs.Extension.{Extension}
 use Rattle.model.specs.Check.{check}
 use Rattle.model.specs.Decision.{witness}
-use Rattle.model.specs.StaysTrue.{ExactAndSteady, StaysTrue}
+use Rattle.model.specs.StaysTrue.{ExactAndSteady, DemandThree}
 use Rattle.model.proofs.Agree.{extended-conflicting}
 use Rattle.model.proofs.Threads.{conflicting-apart}
 use Rattle.model.proofs.TwoThreads.{two-threads-exact}
@@ -56,5 +56,9 @@ module _ (t t′ : Trace) (g : Good t) (long : Extension t t′) (a b : ℕ) (c 
           same-answer = same-answer;
         }
 
-  pub stays-true : StaysTrue t t′ a b
-  stays-true = record { two-threads = exact-and-steady; witness-stays = stays; answer-stays = λ ρ e. stays ρ (shown ρ .0 e) }
+pub stays-true : DemandThree
+stays-true t t′ g long a b c = record {
+  two-threads = exact-and-steady t t′ g long a b c;
+  witness-stays = stays t t′ g long a b c;
+  answer-stays = λ ρ e. stays t t′ g long a b c ρ (shown t t′ g long a b c ρ .0 e);
+}

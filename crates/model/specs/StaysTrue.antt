@@ -1,4 +1,4 @@
--- What demand 3 claims of a trace t, an extension t′ of it and a conflicting pair (a, b) of t.
+-- Demand 3: what is claimed of a good trace t, any extension t′ of it and any conflicting pair (a, b) of t.
 use Prim.Native.Nat.{ℕ}
 use mathlib.Core.Path.{_≡_}
 use mathlib.Core.Logic.{_↔_}
@@ -6,9 +6,10 @@ use mathlib.Core.Option.{some}
 use mathlib.Core.List.{List}
 use Rattle.model.specs.Trace.{Trace}
 use Rattle.model.specs.Lists.{TwoThreads}
+use Rattle.model.specs.Good.{Good}
 use Rattle.model.specs.Reordering.{BringsBoth}
-use Rattle.model.specs.Race.{Reported, Witness}
-use Rattle.model.specs.Extension.{PredictableInExtension}
+use Rattle.model.specs.Race.{Conflicting, Reported, Witness}
+use Rattle.model.specs.Extension.{Extension, PredictableInExtension}
 use Rattle.model.specs.Check.{check}
 use Rattle.model.specs.Decision.{witness}
 
@@ -30,3 +31,7 @@ pub record StaysTrue (t t′ : Trace) (a b : ℕ) : Type 0 where
   pub witness-stays : (ρ : List ℕ) → Witness t a b ρ → BringsBoth t′ ρ a b × (check t′ a b ρ ≡ 0)
   -- the same of the answer to question 3
   pub answer-stays : (ρ : List ℕ) → witness t a b ≡ some ρ → BringsBoth t′ ρ a b × (check t′ a b ρ ≡ 0)
+
+-- demand 3 of the model
+abbrev pub DemandThree : Type 0
+DemandThree = (t t′ : Trace) → Good t → Extension t t′ → (a b : ℕ) → Conflicting t a b → StaysTrue t t′ a b
