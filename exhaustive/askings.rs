@@ -39,14 +39,17 @@ pub fn ask_a_few(book: &mut Book, chance: &mut Chance, times: usize) {
 
 /// Question 2 of all numbers at once with a list that is just long enough, and with one entry
 /// fewer; of a refused file with the longest list and with none, since its refusal precedes 10.
+/// Then the list as numbers, with two entries more than are needed.
 pub fn ask_all(book: &mut Book) {
-    let lists = match book.study() {
-        Some(study) => [study.events().len() + 1, study.events().len()],
+    let n = book.study().map(|study| study.events().len());
+    let lists = match n {
+        Some(n) => [n + 1, n],
         None => [LONGEST, 0],
     };
     for entries in lists {
         book.ask22(entries);
     }
+    book.ask21(n.map_or(2, |n| n + 3));
 }
 
 /// Question 2 of all numbers at once, asked of one recording in five, with a list that is mostly

@@ -155,6 +155,18 @@ impl Book {
         self.line(&format!("?22 {entries}"), &(words + &places));
     }
 
+    /// The same, and the whole list afterwards as numbers: 0 for the start, 65535 for what is not
+    /// a read, 9999 where an entry is as it was lent.
+    pub fn ask21(&mut self, entries: usize) {
+        assert!(entries <= LONGEST, "a list too long");
+        let mut lent = vec![None; entries];
+        // a refusal leaves the list as it was lent
+        let _ = self.asked.all_observed(&mut lent);
+        let numbers: String = lent.iter().map(|e| format!(" {}", entry(*e))).collect();
+        self.count("question 2 of all numbers, the list as numbers".to_string());
+        self.line(&format!("?21 {entries}"), &format!("list{numbers}"));
+    }
+
     pub fn ask3(&mut self, a: usize, b: usize, entries: usize, area: usize) {
         let mut lent = vec![9999u16; entries];
         let mut work = vec![170u8; area];
@@ -441,6 +453,16 @@ fn seen_words(front: &[Option<Seen>]) -> String {
     given
         .map(|seen| format!(" {}", seen_or_refused(Ok(*seen))))
         .collect()
+}
+
+/// An entry of the lent list as a number.
+fn entry(entry: Option<Seen>) -> usize {
+    match entry {
+        None => 9999,
+        Some(Seen::Write(w)) => w,
+        Some(Seen::Start) => 0,
+        Some(Seen::NotARead) => 65535,
+    }
 }
 
 fn fault_or_refused(said: Result<Option<u8>, Refusal>) -> String {

@@ -42,6 +42,7 @@ fn vectors() -> Book {
     limits::write(&mut book);
     samples::write(&mut book);
     writings::write(&mut book);
+    worked::choices(&mut book);
     book
 }
 

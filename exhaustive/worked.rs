@@ -164,6 +164,37 @@ fn y_and_z(book: &mut Book) {
     book.ask5(3, 8, &[1, 5, 6, 7, 2]);
 }
 
+/// What the worked examples leave open: which of two lists is shown, whose release ends a section,
+/// and proposals that get 21, 22, 25 and 26.
+pub fn choices(book: &mut Book) {
+    book.group("group 9: what the worked examples leave open");
+    let title = "two lists are possible: the one shown begins with the thread that is not moved";
+    put(book, title, "0w1 0w0 1w2 1w0", &[(2, 4, &[3, 1])]);
+    book.ask5(2, 4, &[1, 3]);
+    book.assert_answer("yes");
+    let title = "two locks: (1, 9) is not reported, 2 is given back by 7 and not by 5";
+    let races: [Race; 3] = [
+        (1, 6, &[2, 3, 4, 5]),
+        (4, 8, &[2, 3]),
+        (6, 9, &[2, 3, 4, 8, 5]),
+    ];
+    put(book, title, "0w0 2+0 2+1 2w1 2-1 2r0 2-0 1r1 1w0", &races);
+    let title = "U again: a number that is no event, one that is not next, a and b not enabled";
+    put(book, title, U, &[(1, 3, &[]), (2, 4, &[1, 3])]);
+    let lists: [(&[usize], &str); 6] = [
+        (&[1, 0], "no 21"),
+        (&[5], "no 21"),
+        (&[2], "no 22"),
+        (&[1, 1], "no 22"),
+        (&[], "no 25"),
+        (&[1], "no 26"),
+    ];
+    for (list, answer) in lists {
+        book.ask5(2, 4, list);
+        book.assert_answer(answer);
+    }
+}
+
 /// For each slip a recording that a program making it answers wrongly.
 fn slips(book: &mut Book) {
     let title = "slip, differing lock sets: T, (1, 7) has no common lock";

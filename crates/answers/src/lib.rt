@@ -1,6 +1,6 @@
 // The answers to questions 2 to 6, as text, and what is left of the lists and areas that they borrow.
+use limits::Recording;
 use limits::Refusal;
-use limits::Trace;
 use questions::Check;
 use questions::Finding;
 use questions::Next;
@@ -43,7 +43,7 @@ pub fn observed(file: &[u8], k: u16) {
 
 // Question 3 with a work area of just the bytes that it needs.
 pub fn verdict(file: &[u8], a: u16, b: u16, list: &mut [u16]) -> Finding {
-    let mut area = [BYTE; Trace::AREA_BYTES];
+    let mut area = [BYTE; Recording::AREA_BYTES];
     questions::verdict(file, a, b, list, &mut area)
 }
 
@@ -61,7 +61,7 @@ pub fn say_finding(f: Finding, list: &[u16]) {
 
 // Question 4 with a work area of just the bytes that it needs.
 pub fn next(file: &[u8], a: u16, b: u16) -> Next {
-    let mut area = [BYTE; Trace::AREA_BYTES];
+    let mut area = [BYTE; Recording::AREA_BYTES];
     questions::next_race(file, a, b, &mut area)
 }
 
@@ -146,9 +146,19 @@ pub fn ask_observed_writes(file: &[u8], entries: u16) {
     }
 }
 
+// The same, and the whole list as numbers.
+pub fn ask_entries(file: &[u8], entries: u16) {
+    let mut entries_lent = [ENTRY; ENTRIES];
+    let e = at_most(entries as usize, ENTRIES);
+    let list = &mut entries_lent[0..e];
+    questions::observed_writes(file, list);
+    word(b"list");
+    text::list(list, e as u16);
+}
+
 // How many of the bytes that a question may use are zero, and how many of those behind them are as they were lent.
 fn say_area(area: &[u8]) {
-    let used = at_most(Trace::AREA_BYTES, area.len());
+    let used = at_most(Recording::AREA_BYTES, area.len());
     let rest = area.len() - used;
     number(bytes_with(&area[0..used], 0));
     count(b" of ", used as u64);
@@ -184,7 +194,7 @@ pub fn ask_next(file: &[u8], a: u16, b: u16, bytes: usize) {
 
 // Questions 3, 4 and 5, as a refused recording is asked them: of (1, 2), from (0, 0) on, and of (1, 2) with the empty list.
 pub fn of_a_pair(file: &[u8]) {
-    let mut list = [ENTRY; Trace::MAX_EVENTS];
+    let mut list = [ENTRY; Recording::MAX_EVENTS];
     let f = verdict(file, 1, 2, &mut list);
     say_finding(f, &list);
     bar();

@@ -8,7 +8,7 @@ use native.Mathlib.Decide.{ℕ-discrete}
 use lib.ListN.{length, getD, set, drop, replicate, length-set, drop-of-length-le}
 use lib.Seq.{getD-set-same, getD-set-other}
 use borrow.Author.Fill.{fill-more}
-use Rattle.bits.specs.Marks.{isMarked, marking, Clear}
+use Rattle.bits.specs.Marks.{isSet, marking, Clear}
 use Rattle.bits.proofs.MaskLaws.{none-held, held-other}
 
 zero-at : (n i : ℕ) → _≡_ {A = ℕ} (getD (replicate n 0) i 0) 0
@@ -16,15 +16,15 @@ zero-at zero i = refl
 zero-at (suc n) zero = refl
 zero-at (suc n) (suc i) = zero-at n i
 
-pub clear-none : (s : List ℕ) (k : ℕ) → Clear s → isMarked s k ≡ false
-unfolding isMarked Clear
+pub clear-none : (s : List ℕ) (k : ℕ) → Clear s → isSet s k ≡ false
+unfolding isSet Clear
 clear-none s k c = rw (c, zero-at (length s) (k / 8)) (none-held (k % 8))
 
-pub marking-other : (s : List ℕ) (k j : ℕ) → k < 8 * length s → (j ≡ k → ⊥) → isMarked (marking s k) j ≡ isMarked s j
-unfolding isMarked marking
+pub marking-other : (s : List ℕ) (k j : ℕ) → k < 8 * length s → (j ≡ k → ⊥) → isSet (marking s k) j ≡ isSet s j
+unfolding isSet marking
 marking-other s k j h ne = go (ℕ-discrete (j / 8) (k / 8))
   where
-    go : Dec (j / 8 ≡ k / 8) → isMarked (marking s k) j ≡ isMarked s j
+    go : Dec (j / 8 ≡ k / 8) → isSet (marking s k) j ≡ isSet s j
     go (no f) = rw (getD-set-other s (k / 8) (j / 8) _ 0 f)
     go (yes q) =
         let i : k / 8 < length s = omega arith in

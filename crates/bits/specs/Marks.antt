@@ -7,8 +7,8 @@ use lib.ListN.{length, getD, set, replicate}
 use Rattle.bits.specs.Mask.{holds, including}
 
 -- state k is marked
-unfoldable pub isMarked : List ℕ → ℕ → Bool
-isMarked s k = holds (getD s (k / 8) 0) (k % 8)
+unfoldable pub isSet : List ℕ → ℕ → Bool
+isSet s k = holds (getD s (k / 8) 0) (k % 8)
 
 -- the area with state k marked too
 unfoldable pub marking : List ℕ → ℕ → List ℕ

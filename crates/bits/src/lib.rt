@@ -1,9 +1,9 @@
-// Bits: sets of numbers below 16 in a u16, and a work area with one bit a state.
+// Sets of numbers below 16 in a u16, and the places that a caller lends: a work area with one bit a state, a list of numbers.
 ghost use mathlib.Core.Path.{_≡_};
 ghost use Prim.Native.Nat.{_*_, _<_};
-ghost use lib.ListN.{length, replicate};
+ghost use lib.ListN.{length, getD, set, replicate};
 ghost use Rattle.bits.specs.Mask.{including};
-ghost use Rattle.bits.specs.Marks.{isMarked, marking};
+ghost use Rattle.bits.specs.Marks.{isSet, marking};
 
 // The set with x in it too. How many numbers a set has is its count of ones.
 pub fn include(mask: u16, x: u8) -> u16
@@ -16,7 +16,7 @@ pub fn include(mask: u16, x: u8) -> u16
 // Is state k marked?
 pub fn marked(area: &[u8], k: usize) -> bool
     requires { ⌜ k < 8 * length (now area) ⌝ }
-    ensures { λ r. ⌜ r ≡ isMarked (now (area .entry)) k ⌝ }
+    ensures { λ r. ⌜ r ≡ isSet (now (area .entry)) k ⌝ }
 {
     (area[k / 8] >> (k % 8)) % 2 == 1
 }
@@ -39,4 +39,13 @@ pub fn clear(area: &mut [u8])
         area[i] = 0;
         i += 1;
     }
+}
+
+// Number k of a list goes to place `at` of the lent one.
+pub fn place(from: &[u16], k: usize, out: &mut [u16], at: usize)
+    requires { ⌜ k < length (now from) ⌝ }
+    requires { ⌜ at < length (now out) ⌝ }
+    ensures { λ _. ⌜ now (out .exit) ≡ set (now (out .entry)) at (getD (now (from .entry)) k 0) ⌝ }
+{
+    out[at] = from[k];
 }

@@ -1,2 +1,3 @@
--- The ways through the code
-pub mod CheckingLaws
+pub mod PassLaws
+-- the walk over the list, and question 5
+pub mod CheckLaws

@@ -1,2 +1,3 @@
 -- Question 5 on events.
 pub mod Checking
+pub mod Passing

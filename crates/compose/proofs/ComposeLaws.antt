@@ -5,21 +5,20 @@ use mathlib.Core.Path.{_≡_, refl, sym, _∙_, ap}
 use mathlib.Core.Option.{Option, none, some}
 use mathlib.Core.List.{List}
 use lib.ListN.{length, take, drop, length-append}
-use lib.Dec.{leb}
 use Rattle.model.specs.Trace.{Trace, threadList, kindList, objectList}
+use Rattle.model.specs.Lists.{inFront}
 use Rattle.limits.specs.Limits.{eventBytes}
 use Rattle.limits.specs.declared.Refusal.{Refusal}
-use Rattle.limits.specs.declared.Refusal.the-variants.{ListShort}
-use Rattle.judging.specs.Judged.{orElse, unless, fileRefusal}
+use Rattle.limits.specs.Refusals.{settled}
 use Rattle.appending.specs.Appended.{Appends}
-use Rattle.layout.specs.Written.{written}
-use Rattle.layout.proofs.ListLaws.{lists-back, lists-even}
+use Rattle.writing.specs.Written.{written}
+use Rattle.writing.proofs.ListLaws.{lists-back, lists-even}
 use Rattle.composing.specs.Texts.{lines, joined, Makes, ReadsText, good, bad-line as bad-text}
 use Rattle.composing.specs.declared.Text.{Text}
 use Rattle.composing.specs.declared.Text.the-variants.{Bad, Good}
 use Rattle.composing.proofs.AnswerLaws.{makes-few}
 use Rattle.writing.proofs.WriteLaws.{true-even, refused-no-bytes}
-use Rattle.writing.specs.Writing.{writtenBy, handed, answerWrite}
+use Rattle.writing.specs.Writing.{wrote, handRefusal, handed, answerWrite}
 use Rattle.writing.specs.declared.Written.{Written}
 use Rattle.writing.specs.declared.Written.the-variants.{Refused as NotWritten, Bytes}
 use Rattle.compose.specs.Composed.{recorded, Composes, bad-line, refused, recording, WritesParts, not-written, parts-written}
@@ -38,7 +37,7 @@ module _ (a : ℕ) (p threads kinds objects file file′ : List ℕ) (w : Writte
 -- ---- the parts of a text
 
 answer-recorded : (p : List ℕ) (es : Trace) (file : List ℕ) → answerWrite p (threadList es) (kindList es) (objectList es) file ≡ recorded p es file
-unfolding answerWrite
+unfolding answerWrite handed
 answer-recorded p es file = rw (true-even (threadList es) (kindList es) (objectList es) (lists-even es), lists-back es)
 
 -- what the program hands on of what is lent
@@ -70,7 +69,8 @@ module _ {text pre pre′ th th′ ki ki′ ob ob′ : List ℕ} where
 
 -- ---- what an answer says
 
-by-refusal : (o : Option Refusal) (s file file′ : List ℕ) (n : ℕ) → (Bytes n, file′) ≡ writtenBy o s file → n ≤ length file′
+by-refusal : (o : Option Refusal) (s file file′ : List ℕ) (n : ℕ) → (Bytes n, file′) ≡ settled (λ r. (NotWritten r, file)) (wrote s file) o → n ≤ length file′
+unfolding inFront
 by-refusal none s file file′ n e =
     let p : Bytes n ≡ Bytes (length s) = ap (λ (x : Written × List ℕ). x .0) e in
     let q : n ≡ length s = cc in
@@ -87,7 +87,7 @@ module _ {text file file′ : List ℕ} where
   recording-within (refused m ea q) n e = let o : _≡_ {A = ℕ} 0 1 = cc in absurd (omega arith)
   recording-within (recording {notes = notes} {es = es} {n = k} m q) n e =
       let s = written eventBytes (joined notes) es in
-      let h = by-refusal (orElse (fileRefusal eventBytes s) (unless (leb (length s) (length file)) ListShort)) s file file′ k q in
+      let h = by-refusal (handRefusal s file) s file file′ k q in
       let z : k ≡ n = cc in
       omega arith
 

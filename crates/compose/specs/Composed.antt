@@ -6,7 +6,7 @@ use lib.ListN.{length}
 use Rattle.model.specs.Trace.{Trace}
 use Rattle.limits.specs.Limits.{eventBytes}
 use Rattle.limits.specs.declared.Refusal.{Refusal}
-use Rattle.layout.specs.Written.{written}
+use Rattle.writing.specs.Written.{written}
 use Rattle.composing.specs.Texts.{lines, joined, Makes, FirstBad}
 use Rattle.writing.specs.Writing.{handed, answerWrite}
 use Rattle.writing.specs.declared.Written.{Written}

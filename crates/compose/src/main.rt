@@ -4,8 +4,8 @@ use input::Input;
 use libc::STDERR_FILENO;
 use libc::STDOUT_FILENO;
 use limits::EventNumber;
+use limits::Recording;
 use limits::Refusal;
-use limits::Trace;
 use writing::Written;
 ghost use Prim.Native.Nat.{_≤_};
 ghost use lib.ListN.{length};
@@ -102,7 +102,7 @@ fn compose_text(text: &[u8], file: &mut [u8]) -> Composed
 fn answer(text: &[u8])
     requires { ⌜ length (now text) ≤ textBytes ⌝ }
 {
-    let mut file = [0u8; Trace::MAX_BYTES];
+    let mut file = [0u8; Recording::MAX_BYTES];
     match compose_text(text, &mut file) {
         Composed::BadLine(n) => {
             say_number(b"compose: bad line ", n as u64);

@@ -7,7 +7,7 @@ use lib.ListN.{length, length-append, length-map}
 use lib.Dec.{eqb}
 use Rattle.model.specs.Trace.{Trace}
 use Rattle.model.proofs.Tests.{by-cases}
-use Rattle.preambles.specs.Readable.{lineFeed}
+use Rattle.format.specs.Readable.{lineFeed}
 use Rattle.appending.specs.Appended.{Appends}
 use Rattle.composing.specs.Lines.{noteLine, eventLine}
 use Rattle.composing.specs.Texts.{extend, lines, Makes, ReadsText, good, bad-line}

@@ -14,8 +14,8 @@ use Rattle.model.proofs.Tests.{by-cases, clash}
 use Rattle.model.specs.Trace.{Event, read, write, acquire, release}
 use Rattle.appending.specs.Decimal.{decimal, valueFrom, InDecimal}
 use Rattle.appending.proofs.DecimalLaws.{decimal-value, decimal-in}
-use Rattle.preambles.specs.Readable.{isReadable}
-use Rattle.preambles.proofs.ReadableExact.{readable-true, true-readable}
+use Rattle.format.specs.Readable.{isReadable}
+use Rattle.format.proofs.ReadableExact.{readable-true, true-readable}
 use Rattle.composing.specs.Lines.{noteWord, readWord, writeWord, acquireWord, releaseWord, word, noteLine, IsNote, eventLine, IsEvent, Reads, note, event, bad}
 use Rattle.composing.specs.Parts.{SaysNote, is-note, no-note, firstAt, ReadsNumber, ReadsKind, kind, no-kind, IsAction, ReadsAction, action, no-action, ReadsEvent, is-event, no-event}
 use Rattle.composing.specs.declared.Line.{Line}

@@ -5,8 +5,8 @@ use mathlib.Core.Bool.{true}
 use mathlib.Core.List.{List, [], _∷_, _++_, List·Memᴰ, List·Memᴰ·head, List·Memᴰ·tail}
 use Rattle.model.specs.Trace.{Trace}
 use Rattle.model.proofs.Tests.{both, true-both}
-use Rattle.preambles.specs.Readable.{lineFeed, Readable, isReadableByte, isReadable}
-use Rattle.preambles.proofs.ReadableExact.{readable-true, true-readable}
+use Rattle.format.specs.Readable.{lineFeed, Readable, isReadableByte, isReadable}
+use Rattle.format.proofs.ReadableExact.{readable-true, true-readable}
 use Rattle.composing.specs.Texts.{joined, Makes}
 
 then-readable : (s t : List ℕ) → isReadable s ≡ true → isReadable t ≡ true → isReadable (s ++ t) ≡ true

@@ -15,7 +15,7 @@ use Rattle.model.proofs.Tests.{by-cases}
 use Rattle.model.specs.Trace.{Event, Trace}
 use Rattle.appending.specs.Appended.{Appends}
 use Rattle.appending.proofs.AppendLaws.{appends-nothing, appends-byte, appends-then}
-use Rattle.preambles.specs.Readable.{Readable}
+use Rattle.format.specs.Readable.{Readable}
 use Rattle.composing.specs.Lines.{noteLine, IsNote, eventLine, InRange, IsEvent, Reads}
 use Rattle.composing.specs.Texts.{lines, joined, Makes, Listed, ReadsText, good, bad-line}
 use Rattle.composing.specs.Parts.{SaysNote, NextLine, noteBytes, NotesRead, NotesUpTo, ListsLent, EventsRead, ReadsEvents, all, stopped}

@@ -5,7 +5,7 @@ use mathlib.Core.Bool.{cond}
 use mathlib.Core.List.{List, [], _∷_, _++_}
 use lib.Dec.{eqb}
 use Rattle.model.specs.Trace.{Event, read, write, acquire, release}
-use Rattle.preambles.specs.Readable.{Readable}
+use Rattle.format.specs.Readable.{Readable}
 use Rattle.appending.specs.Decimal.{decimal}
 use Rattle.composing.specs.declared.Line.{Line}
 use Rattle.composing.specs.declared.Line.the-variants.{Bad, Note, Event as EventOf}

@@ -7,7 +7,7 @@ use mathlib.Core.List.{List, [], _∷_, _++_, map, List·Memᴰ}
 use lib.ListN.{length, take, drop}
 use lib.Dec.{eqb, ltb}
 use Rattle.model.specs.Trace.{Event, Trace, read, release}
-use Rattle.preambles.specs.Readable.{lineFeed, Readable}
+use Rattle.format.specs.Readable.{lineFeed, Readable}
 use Rattle.appending.specs.Decimal.{decimal}
 use Rattle.appending.specs.Appended.{Appends}
 use Rattle.composing.specs.Lines.{word, noteLine, IsNote, eventLine, InRange, IsEvent}

@@ -6,7 +6,7 @@ use mathlib.Core.List.{List, [], _∷_, _++_, map, List·Memᴰ}
 use lib.ListN.{length, take}
 use lib.Dec.{eqb}
 use Rattle.model.specs.Trace.{Event, Trace, threadList, kindList, objectList}
-use Rattle.preambles.specs.Readable.{lineFeed, Readable}
+use Rattle.format.specs.Readable.{lineFeed, Readable}
 use Rattle.appending.specs.Appended.{Appends}
 use Rattle.composing.specs.Lines.{noteLine, eventLine, InRange}
 use Rattle.composing.specs.declared.Text.{Text}

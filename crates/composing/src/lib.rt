@@ -1,6 +1,6 @@
 // Reads a recording from text: note lines, then event lines. No other crate reads such a text.
+use format::NoteByte;
 use limits::Event;
-use preambles::NoteByte;
 ghost use mathlib.Core.Path.{_≡_};
 ghost use Prim.Native.Nat.{_+_, _≤_, _<_};
 ghost use lib.ListN.{length};
@@ -80,7 +80,7 @@ fn is_note(line: &[u8]) -> bool
     if !check::same(&line[..NOTE_BYTES], b"note ") {
         return false;
     }
-    preambles::readable(&line[NOTE_BYTES..])
+    format::readable(&line[NOTE_BYTES..])
 }
 
 // The number that digits stand for.

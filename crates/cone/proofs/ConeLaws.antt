@@ -1,60 +1,78 @@
 -- The flags before the first sweep and after the last.
-use Prim.Native.Nat.{ℕ, zero, suc, _≤_, _<_}
+use Prim.Native.Nat.{ℕ, zero, suc, _+_, _≤_, _<_}
 use native.Mathlib.Omega.{arith}
-use mathlib.Core.Path.{_≡_, refl, sym, _∙_}
+use mathlib.Core.Path.{_≡_, sym, _∙_, ap}
 use mathlib.Core.List.{List}
-use lib.ListN.{length, getD}
+use lib.ListN.{length, getD, set, replicate, length-set, length-replicate, getD-replicate}
+use lib.Seq.{getD-set-same, getD-set-other}
 use lib.Dec.{eqb}
 use borrow.Author.Tests.{eqb-true, eqb-false}
-use Rattle.model.specs.Trace.{Trace, Valid}
+use Rattle.model.specs.Trace.{Trace}
 use Rattle.model.specs.Cone.{InCone, Brings, Earlier, root, brought, earlier, observes, closes}
 use Rattle.model.proofs.Tests.{by-cases}
-use Rattle.model.proofs.ConeExact.{cone-valid, false-exempt}
-use Rattle.model.proofs.Merges.{getD-mem}
-use Rattle.links.specs.Links.{previous, observedBy, releaseOf}
-use Rattle.links.proofs.LinkFacts.{previous-less, previous-earlier, previous-last, reads-observed, acquires-release}
-use Rattle.bringing.specs.Bringing.{Roots, Brought}
-use Rattle.bringing.proofs.ExemptLaws.{mem-place, root-valid}
-use Rattle.cone.specs.Flags.{Ready, ConeFlags}
-use Rattle.cone.specs.Sweep.{Closing, Seeds, Seeded}
+use Rattle.model.proofs.ConeEvents.{cone-valid}
+use Rattle.decision.proofs.ConeExact.{false-exempt}
+use Rattle.decision.proofs.Merges.{getD-mem}
+use Rattle.table.specs.Links.{previous, observedBy, releaseOf}
+use Rattle.table.proofs.LinkFacts.{previous-less, previous-earlier, previous-last, reads-observed, acquires-release}
+use Rattle.cone.specs.Flags.{Roots, ConeFlags}
+use Rattle.cone.specs.Sweep.{Brought, Seeded, Closing}
+use Rattle.cone.proofs.RootLaws.{mem-place, root-valid}
+use Rattle.cone.proofs.BringLaws.{flag-keep, sound-more}
 
-module _ {t : Trace} {prev obs rel R flags : List ℕ} (w : Ready t prev obs rel R flags) where
-  root-at : (i : ℕ) → i < length R → Valid t (getD R i 0)
-  root-at i h = root-valid (w .given .roots) i h (getD R i 0) refl
+-- ---- the event before each root
 
-  before-root : (i : ℕ) → i < length R → getD prev (getD R i 0) 0 ≡ previous t (getD R i 0)
-  before-root i h = w .given .links .earlier .is (getD R i 0) (root-at i h .bounded)
+pub first-flag : (f g : List ℕ) → f ≡ g → set f 0 1 ≡ set g 0 1
+first-flag f g e = ap (λ (l : List ℕ). set l 0 1) e
 
-  module _ (f : List ℕ) (ef : length f ≡ length flags) where
-    pub seeds-there : Seeds prev R f
-    seeds-there = record {
-      low = λ i l. let z = w .given .links .earlier .long in let y = root-at i l .bounded in omega arith;
-      lower = λ i l.
-          let x = root-at i l in
-          let e = before-root i l in
-          let y = previous-less t (getD R i 0) (x .positive) in
-          let b = x .bounded in
-          let h = w .room in omega arith;
+-- nothing is flagged but place 0
+pub seed-start : (t : Trace) (R l f : List ℕ) → length t < length l → f ≡ set (replicate (length l) 0) 0 1 → Seeded t R 0 f
+seed-start t R l f h e =
+    let z = replicate {A = ℕ} (length l) 0 in
+    let n : length z ≡ length l = length-replicate (length l) 0 in
+    let m : length (set z 0 1) ≡ length z = length-set z 0 1 in
+    rw e
+    record {
+      cone = record {
+        room = omega arith;
+        zero = getD-set-same z 0 1 0 (omega arith);
+        sound = λ k v q.
+            let p = v .positive in
+            let b = v .bounded in
+            let y : _≡_ {A = ℕ} 0 1 = sym (getD-set-other z 0 k 1 0 (omega arith) ∙ getD-replicate (length l) k 0 0 (omega arith)) ∙ q in absurd (omega arith);
+      };
+      rooted = λ n l. absurd (omega arith);
     }
 
-    pub closing-start : {g : List ℕ} → Seeded prev R f (length R) g → Closing t R (length t) g
-    closing-start {g} a =
-        let h : length t < length g = let l = a .long in let y = w .room in omega arith in
-        record {
-          high = omega arith;
-          cone = record { room = h; zero = a .zero; sound = λ k u q. sound k u (a .only k (u .positive) (let b = u .bounded in omega arith) q) };
-          rooted = λ n l. rw (before-root n l) at (a .made n l);
-          closed = λ j l b q. absurd (omega arith);
-        }
-      where
-        sound : (k : ℕ) → Valid t k → (n : ℕ) × (n < length R) × (k ≡ getD prev (getD R n 0) 0) → InCone t R k
-        sound k u x =
-            let n = x .0 in
-            let e : k ≡ previous t (getD R n 0) = x .2 ∙ before-root n (x .1) in
-            rw e (root (getD-mem R n (x .1)) (previous-earlier t (getD R n 0) (let p = u .positive in omega arith)))
+module _ {t : Trace} {R : List ℕ} (v : Roots t R) {i : ℕ} {flags : List ℕ} (p : Seeded t R i flags) (h : i < length R) (r : ℕ) (er : r ≡ getD R i 0) (q : ℕ) (eq : q ≡ previous t r) where
+  pub seed-room : q < length flags
+  seed-room =
+      let u = root-valid v i h r er in
+      let z = previous-less t r (u .positive) in
+      let b = u .bounded in
+      let y = p .cone .room in omega arith
 
-pub follow-start : {t : Trace} {R l : List ℕ} → Closing t R (length t) l → (n : ℕ) → n ≡ length t → Closing t R n l
-follow-start c n e = rw (← e) at c
+  pub seed-more : Seeded t R (i + 1) (set flags q 1)
+  seed-more =
+      let e : q ≡ previous t (getD R i 0) = eq ∙ ap (previous t) er in
+      record {
+        cone = sound-more t R flags (p .cone) q (λ ne. rw e (root (getD-mem R i h) (previous-earlier t (getD R i 0) (rw e at ne))));
+        rooted = λ n l.
+            by-cases (eqb n i)
+            (λ w. rw (eqb-true n i w, ← e) (getD-set-same flags q 1 0 seed-room))
+            (λ w. flag-keep flags q _ (p .rooted n (let ne = eqb-false n i w in omega arith)));
+      }
+
+pub seed-long : (l l₀ : List ℕ) (q : ℕ) → length l ≡ length l₀ → length (set l q 1) ≡ length l₀
+seed-long l l₀ q e = length-set l q 1 ∙ e
+
+pub seed-end : {t : Trace} {R : List ℕ} {i : ℕ} {flags : List ℕ} → Seeded t R i flags → length R ≤ i → Seeded t R (length R) flags
+seed-end p h = record { cone = p .cone; rooted = λ n l. p .rooted n (omega arith) }
+
+-- ---- the sweeps
+
+pub closing-start : {t : Trace} {R l : List ℕ} → Seeded t R (length R) l → (n : ℕ) → n ≡ length t → Closing t R n l
+closing-start s n e = record { high = omega arith; seeded = s; closed = λ j l b q. absurd (omega arith) }
 
 module _ {t : Trace} {R f : List ℕ} {n : ℕ} (s : Closing t R n f) (n0 : n ≤ 0) (v : Roots t R) where
   -- where the event before k is flagged, so is each earlier one of its thread
@@ -81,9 +99,9 @@ module _ {t : Trace} {R f : List ℕ} {n : ℕ} (s : Closing t R n f) (n0 : n �
   reaches k j l g (closes c out o ne) = let q : releaseOf t k ≡ j = acquires-release t k c ∙ o in rw q at (g .closing (false-exempt t R k out))
 
   all : {k : ℕ} → InCone t R k → getD f k 0 ≡ 1
-  all {k} (root {r = r} m x) = let y = mem-place m in chain r k r (omega arith) (v .valid r m .bounded) x (rw (y .2) at (s .rooted (y .0) (y .1)))
+  all {k} (root {r = r} m x) = let y = mem-place m in chain r k r (omega arith) (v .valid r m .bounded) x (rw (y .2) at (s .seeded .rooted (y .0) (y .1)))
   all {k = j} (brought {k = k} x b) =
       let u = cone-valid t R (v .valid) x in reaches k j (u .bounded) (s .closed k (let h = u .positive in omega arith) (u .bounded) (all x)) b
 
   pub closing-end : ConeFlags t R f
-  closing-end = record { room = s .cone .room; is = λ k u. ((λ g. s .cone .sound k u g), (λ x. all x)) }
+  closing-end = record { room = s .seeded .cone .room; is = λ k u. ((λ g. s .seeded .cone .sound k u g), (λ x. all x)) }

@@ -8,14 +8,14 @@ use lib.ListN.{length, getD}
 use borrow.Author.Tests.{eqb-true, eq-eqb}
 use Rattle.model.specs.Trace.{Trace, Valid, threadOf}
 use Rattle.model.specs.Lists.{_∈_, upTo, keep, anyIn, listed, only, is}
-use Rattle.model.specs.Rounds.{cone}
-use Rattle.model.specs.Grid.{side}
+use Rattle.decision.specs.Rounds.{cone}
+use Rattle.decision.specs.Grid.{side}
 use Rattle.model.proofs.Tests.{false-test}
 use Rattle.model.proofs.Lists.{mem-keep, keep-mem, any-mem, mem-any, keep-reverse, mem-listed, listed-mem, mem-reverse, reverse-mem, mem-upTo, upTo-mem, increasing-reverse, increasing-unique}
-use Rattle.model.proofs.ConeExact.{cone-valid, cone-exactly, cone-increasing}
-use Rattle.bringing.specs.Bringing.{Roots}
-use Rattle.sides.specs.Sides.{flagged, flaggedOf}
-use Rattle.cone.specs.Flags.{ConeFlags}
+use Rattle.model.proofs.ConeEvents.{cone-valid}
+use Rattle.decision.proofs.ConeExact.{cone-exactly, cone-increasing}
+use Rattle.cone.specs.Sides.{flagged, flaggedOf}
+use Rattle.cone.specs.Flags.{Roots, ConeFlags}
 
 module _ {t : Trace} {R flags : List ℕ} (c : ConeFlags t R flags) (v : Roots t R) where
   flag-cone : (k : ℕ) → Valid t k → getD flags k 0 ≡ 1 → k ∈ cone t R

@@ -10,9 +10,8 @@ use lib.Dec.{eqb}
 use borrow.Author.Tests.{eqb-true, eqb-false}
 use Rattle.model.specs.Trace.{Trace, Valid}
 use Rattle.model.proofs.Tests.{by-cases}
-use Rattle.bringing.specs.Bringing.{Grown, Brings, unflagged}
-use Rattle.bringing.proofs.BringLaws.{grown-none, brought-kept}
-use Rattle.cone.specs.Sweep.{Closing}
+use Rattle.cone.proofs.BringLaws.{grown-none, brought-kept}
+use Rattle.cone.specs.Sweep.{Grown, BringsIn, Closing, unflagged}
 
 -- ---- one sweep: each flagged event above both k and the highest new release has brought in its own
 
@@ -24,14 +23,13 @@ module _ {t : Trace} {R : List ℕ} where
     pub sweep-valid : 0 < k → Valid t k
     sweep-valid h = record { positive = h; bounded = let z = c .high in omega arith }
 
-    module _ {r : ℕ} {l′ : List ℕ} (b : Brings t R k r l l′) (h : 0 < k) (top′ : ℕ) (e : top′ ≡ max top r) where
+    module _ {r : ℕ} {l′ : List ℕ} (b : BringsIn t R k r l l′) (h : 0 < k) (top′ : ℕ) (e : top′ ≡ max top r) where
       pub sweep-more : Closing t R (max (k - 1) top′) l′
       sweep-more =
           let kept = b .grown .kept in
           record {
             high = let y = c .high in let z = b .high in omega arith;
-            cone = b .cone;
-            rooted = λ n u. kept _ (c .rooted n u);
+            seeded = record { cone = b .cone; rooted = λ n u. kept _ (c .seeded .rooted n u) };
             closed = λ j u low q.
                 by-cases (eqb j k)
                 (λ d. let jk = eqb-true j k d in rw jk (b .brought (rw jk at q)))

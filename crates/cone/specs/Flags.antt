@@ -5,13 +5,18 @@ use mathlib.Core.Logic.{_↔_}
 use mathlib.Core.List.{List}
 use lib.ListN.{length, getD}
 use Rattle.model.specs.Trace.{Trace, Valid}
+use Rattle.model.specs.Lists.{_∈_}
 use Rattle.model.specs.Cone.{InCone}
-use Rattle.bringing.specs.Bringing.{Given}
+use Rattle.table.specs.Table.{trace, Linked}
 
--- what the cone is made of, and room for the flags
-pub record Ready (t : Trace) (prev obs rel R flags : List ℕ) : Type 0 where
-  pub given : Given t prev obs rel R
-  pub room : length t < length flags
+-- the roots are events of the trace
+pub record Roots (t : Trace) (R : List ℕ) : Type 0 where
+  pub valid : (r : ℕ) → r ∈ R → Valid t r
+
+-- what the cone is made of: a table with its links, and the roots
+pub record Rooted (s R : List ℕ) : Type 0 where
+  pub links : Linked s
+  pub roots : Roots (trace s) R
 
 -- place k is 1 exactly when event k is in the cone; place 0 is free
 pub record ConeFlags (t : Trace) (R flags : List ℕ) : Type 0 where

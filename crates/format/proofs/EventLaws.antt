@@ -3,12 +3,9 @@ use Prim.Native.Nat.{ℕ, zero, suc, _+_, _-_, _*_, _/_, _≤_, _<_}
 use native.Mathlib.Omega.{arith}
 use native.Mathlib.Nat.{mul-suc, mul-zero}
 use mathlib.Core.Path.{_≡_, refl, ap, sym, _∙_}
-use mathlib.Core.Bool.{false}
 use mathlib.Core.List.{List}
 use lib.ListN.{length, getD}
-use lib.Dec.{eqb}
-use borrow.Author.Tests.{eq-eqb, ne-eqb}
-use Rattle.model.specs.Trace.{Event, Trace, noEvent, at, threadOf, kindOf, objectOf, Valid, does}
+use Rattle.model.specs.Trace.{Event, noEvent, at, threadOf, kindOf, objectOf, Valid}
 use Rattle.limits.specs.Limits.{eventBytes}
 use Rattle.format.specs.Bytes.{byte, number16, eventAt, eventsFrom, traceOf, trace, plain}
 use Rattle.limits.specs.declared.Event.{Event as Decoded}
@@ -58,13 +55,3 @@ count-is s = sym (trace-length eventBytes s)
 
 pub event-is : (s : List ℕ) (k : ℕ) (e : Decoded) → e .thread .number ≡ threadOf (trace s) k → e .kind ≡ kindOf (trace s) k → e .object ≡ objectOf (trace s) k → plain e ≡ at (trace s) k
 event-is s k e t d o = rw (t, d, o)
-
--- what event k does
-module _ (t : Trace) (k c x kind : ℕ) (ek : kind ≡ kindOf t k) where
-  pub other-kind : (kind ≡ c → ⊥) → false ≡ does t c x k
-  unfolding does
-  other-kind ne = rw (ne-eqb (kindOf t k) c (λ e. ne (ek ∙ e)))
-
-  pub same-kind : kind ≡ c → (o : ℕ) → o ≡ objectOf t k → eqb o x ≡ does t c x k
-  unfolding does
-  same-kind e o eo = rw (eq-eqb (kindOf t k) c (sym ek ∙ e), eo)

@@ -1,21 +1,25 @@
 -- Refusals 1 to 4 and 13 are given exactly in their cases and order, and none exactly when the file has the layout.
 use Prim.Native.Nat.{ℕ, _+_, _-_, _*_}
-use mathlib.Core.Path.{_≡_}
-use mathlib.Core.Logic.{_↔_}
+use mathlib.Core.Path.{_≡_, refl}
+use mathlib.Core.Logic.{_↔_, Iff·trans}
 use mathlib.Core.Bool.{true}
-use mathlib.Core.Option.{Option, none, some}
-use mathlib.Core.List.{List}
+use mathlib.Core.Option.{Option, none}
+use mathlib.Core.List.{List, [], _∷_}
 use lib.ListN.{length}
 use lib.Dec.{eqb, leb}
 use borrow.Author.Tests.{eqb-true, eq-eqb, leb-true, le-leb}
 use Rattle.model.specs.Good.{maxEvents}
-use Rattle.model.proofs.Tests.{by-cases, both, true-both, false-test, test-false}
+use Rattle.model.specs.Rows.{First, Quiet, said}
+use Rattle.model.proofs.Tests.{both, true-both}
+use Rattle.model.proofs.RowsExact.{not-exactly, surely, tests-first, first-exactly}
 use Rattle.limits.specs.Limits.{trailerBytes, maxBytes, isFileSize, markFirst, markSecond}
-use Rattle.preambles.specs.Readable.{isReadable}
-use Rattle.preambles.proofs.ReadableExact.{readable-true, true-readable}
+use Rattle.limits.specs.Refusals.{paper}
+use Rattle.limits.proofs.PaperLaws.{paper-one, quiet-exactly}
+use Rattle.format.proofs.ReadableExact.{readable-true, true-readable}
 use Rattle.format.specs.Bytes.{byte}
-use Rattle.format.specs.Layout.{distance, count, preamble, Sized, Marked, Pointed, LayoutAnswer, bad-size, wrong-mark, too-many, bad-distance, unreadable, isMarked, isPointed, layoutRefusal}
+use Rattle.format.specs.Layout.{distance, count, preamble, Sized, Marked, Pointed, Layout, layoutRows, layoutTests, isMarked, isPointed, layoutRefusal}
 use Rattle.limits.specs.declared.Refusal.{Refusal}
+use Rattle.limits.specs.declared.Refusal.the-variants.{FileSize, Mark, EventCount, Distance, Preamble}
 
 module _ (s : List ℕ) where
   pub sized-true : isFileSize (length s) ≡ true → Sized s
@@ -47,34 +51,34 @@ module _ (s : List ℕ) where
     unfolding isPointed
     true-pointed p = true-both (eq-eqb _ _ (p .back)) (le-leb (distance s) (length s) (p .within))
 
-    answer : LayoutAnswer z s (layoutRefusal z s)
+    layout-first : First (layoutRows z s) (said paper (layoutRefusal z s))
     unfolding layoutRefusal
-    answer =
-        by-cases (isFileSize (length s))
-        (λ a.
-        by-cases (isMarked s)
-        (λ b.
-        by-cases (leb (count s) maxEvents)
-        (λ c.
-        by-cases (isPointed z s)
-        (λ d.
-        by-cases (isReadable (preamble s))
-        (λ e. rw (a, b, c, d, e) (record { sized = sized-true a; marked = marked-true b; few = leb-true (count s) maxEvents c; pointed = pointed-true d; readable = readable-true (preamble s) e }))
-        (λ e. rw (a, b, c, d, e) (unreadable (sized-true a) (marked-true b) (leb-true (count s) maxEvents c) (pointed-true d) (test-false (true-readable (preamble s)) e))))
-        (λ d. rw (a, b, c, d) (bad-distance (sized-true a) (marked-true b) (leb-true (count s) maxEvents c) (test-false true-pointed d))))
-        (λ c. rw (a, b, c) (too-many (sized-true a) (marked-true b) (test-false (le-leb (count s) maxEvents) c))))
-        (λ b. rw (a, b) (wrong-mark (sized-true a) (test-false true-marked b))))
-        (λ a. rw a (bad-size (test-false true-sized a)))
-
-    found : (o : Option Refusal) → LayoutAnswer z s o → layoutRefusal z s ≡ o
-    unfolding layoutRefusal
-    found none p = rw (true-sized (p .sized), true-marked (p .marked), le-leb (count s) maxEvents (p .few), true-pointed (p .pointed), true-readable (preamble s) (p .readable))
-    found (some _) (bad-size n) = rw (false-test sized-true n)
-    found (some _) (wrong-mark a n) = rw (true-sized a, false-test marked-true n)
-    found (some _) (too-many a b n) = rw (true-sized a, true-marked b, false-test (leb-true (count s) maxEvents) n)
-    found (some _) (bad-distance a b c n) = rw (true-sized a, true-marked b, le-leb (count s) maxEvents c, false-test pointed-true n)
-    found (some _) (unreadable a b c d n) = rw (true-sized a, true-marked b, le-leb (count s) maxEvents c, true-pointed d, false-test (readable-true (preamble s)) n)
+    layout-first =
+        tests-first paper (layoutTests z s) (FileSize ∷ Mark ∷ EventCount ∷ Distance ∷ Preamble ∷ []) (layoutRows z s) (
+          not-exactly sized-true true-sized,
+          (
+            not-exactly marked-true true-marked,
+            (not-exactly (leb-true (count s) maxEvents) (le-leb (count s) maxEvents), (not-exactly pointed-true true-pointed, (not-exactly (readable-true (preamble s)) (true-readable (preamble s)), tt))),
+          ),
+        )
+        refl
 
     -- each answer exactly in its case
-    pub layout-exactly : (o : Option Refusal) → (layoutRefusal z s ≡ o) ↔ LayoutAnswer z s o
-    layout-exactly o = ((λ e. rw e at answer), found o)
+    pub layout-exactly : (o : Option Refusal) → (layoutRefusal z s ≡ o) ↔ First (layoutRows z s) (said paper o)
+    layout-exactly o = first-exactly paper paper-one (layoutRows z s) (layoutRefusal z s) layout-first o
+
+    -- none exactly where the file has the layout
+    pub layout-quiet : Quiet (layoutRows z s) ↔ Layout z s
+    layout-quiet = (
+      (λ q. record {
+        sized = surely sized-true true-sized (q .0);
+        marked = surely marked-true true-marked (q .1 .0);
+        few = surely (leb-true (count s) maxEvents) (le-leb (count s) maxEvents) (q .1 .1 .0);
+        pointed = surely pointed-true true-pointed (q .1 .1 .1 .0);
+        readable = surely (readable-true (preamble s)) (true-readable (preamble s)) (q .1 .1 .1 .1 .0);
+      }),
+      (λ l. ((λ f. f (l .sized)), ((λ f. f (l .marked)), ((λ f. f (l .few)), ((λ f. f (l .pointed)), ((λ f. f (l .readable)), tt)))))),
+    )
+
+    pub layout-none : (layoutRefusal z s ≡ none) ↔ Layout z s
+    layout-none = Iff·trans (quiet-exactly (layoutRows z s) (layoutRefusal z s) layout-first) layout-quiet

@@ -5,3 +5,7 @@ pub mod LayoutExact
 pub mod PartLaws
 -- The ways through `read`
 pub mod ReadLaws
+-- What the computed tests say
+pub mod ReadableExact
+-- The ways through the code
+pub mod ReadableLaws

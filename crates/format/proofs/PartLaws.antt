@@ -10,8 +10,8 @@ use lib.Seq.{drop-drop, getD-take, getD-drop, length-take-le}
 use Rattle.model.specs.Trace.{at, Valid}
 use Rattle.limits.specs.Limits.{eventBytes, trailerBytes}
 use Rattle.format.specs.Bytes.{byte, eventAt, trace}
-use Rattle.format.specs.Layout.{count, start, preamble, eventPart, events, trailer, Layout, Parts, spanOf, fileOf, Placed}
-use Rattle.limits.specs.declared.Trace.{Trace as Span}
+use Rattle.format.specs.Layout.{count, start, preamble, eventPart, events, trailer, Layout, Parts, recordingOf, fileOf, Placed}
+use Rattle.limits.specs.declared.Recording.{Recording}
 use Rattle.limits.specs.declared.Refusal.{Refusal}
 use Rattle.format.specs.declared.File.the-variants.{Refused, Good}
 use Rattle.format.proofs.EventLaws.{trace-length, trace-at}
@@ -86,15 +86,15 @@ module _ (z : ℕ) (s : List ℕ) (l : Layout z s) where
 
 -- ---- the parts that the code lends
 
-module _ (s : List ℕ) (t : Span) (p : Placed s t) where
+module _ (s : List ℕ) (t : Recording) (p : Placed s t) where
   pub span-low : t .start ≤ length s - trailerBytes
-  span-low = let f = filled eventBytes s (p .layout) in let e = ap (λ (u : Span). u .start) (p .span) in omega arith
+  span-low = let f = filled eventBytes s (p .layout) in let e = ap (λ (u : Recording). u .start) (p .span) in omega arith
 
   pub event-part : take (length s - trailerBytes - t .start) (drop (t .start) s) ≡ eventPart eventBytes s
   unfolding eventPart
   event-part =
       let f = filled eventBytes s (p .layout) in
-      let e : t .start ≡ start s = ap (λ (u : Span). u .start) (p .span) in
+      let e : t .start ≡ start s = ap (λ (u : Recording). u .start) (p .span) in
       let m : length s - trailerBytes - start s ≡ eventBytes * count s = omega arith in
       rw (e, m)
 
@@ -106,10 +106,10 @@ part-trace s ev e = ap trace e
 -- ---- what a reading says of the refusal
 
 module _ (s : List ℕ) (o : Option Refusal) where
-  pub read-good : (t : Span) → fileOf s o ≡ Good t → (o ≡ none) × (t ≡ spanOf s)
+  pub read-good : (t : Recording) → fileOf s o ≡ Good t → (o ≡ none) × (t ≡ recordingOf s)
   read-good t e = go o refl e
     where
-      go : (p : Option Refusal) → o ≡ p → fileOf s p ≡ Good t → (o ≡ none) × (t ≡ spanOf s)
+      go : (p : Option Refusal) → o ≡ p → fileOf s p ≡ Good t → (o ≡ none) × (t ≡ recordingOf s)
       go none q f = (q, cc)
       go (some r) q f = let x : _≡_ {A = ℕ} 0 1 = cc in absurd (omega arith)
 

@@ -1,19 +1,20 @@
 -- A file: preamble, events of z bytes each, trailer. Refusals 1 to 4 and 13.
 use Prim.Native.Nat.{ℕ, _+_, _-_, _*_, _≤_}
 use mathlib.Core.Path.{_≡_}
-use mathlib.Core.Bool.{Bool, cond, _&&_, not}
+use mathlib.Core.Bool.{Bool, _&&_, not}
 use mathlib.Core.Option.{Option, none, some}
-use mathlib.Core.List.{List, _++_}
+use mathlib.Core.List.{List, [], _∷_, _++_}
 use lib.ListN.{length, take, drop}
 use lib.Dec.{eqb, leb}
 use Rattle.model.specs.Trace.{Trace, Valid, at}
 use Rattle.model.specs.Good.{maxEvents}
+use Rattle.model.specs.Rows.{Row, row, nothing, first}
 use Rattle.limits.specs.Limits.{eventBytes, trailerBytes, maxBytes, isFileSize, markFirst, markSecond}
-use Rattle.preambles.specs.Readable.{Readable, isReadable}
+use Rattle.format.specs.Readable.{Readable, isReadable}
 use Rattle.format.specs.Bytes.{byte, number16, number32, eventAt, traceOf}
 use Rattle.limits.specs.declared.Refusal.{Refusal}
 use Rattle.limits.specs.declared.Refusal.the-variants.{FileSize, Mark, EventCount, Distance, Preamble}
-use Rattle.limits.specs.declared.Trace.{Trace as Span}
+use Rattle.limits.specs.declared.Recording.{Recording}
 use Rattle.format.specs.declared.File.{File}
 use Rattle.format.specs.declared.File.the-variants.{Refused, Good}
 
@@ -70,13 +71,15 @@ pub record Layout (z : ℕ) (s : List ℕ) : Type 0 where
   pub pointed : Pointed z s
   pub readable : Readable (preamble s)
 
--- a file that is refused for its layout: each refusal only where those before it have no case
-pub data LayoutRefusal (z : ℕ) (s : List ℕ) : Refusal → Type 0 where
-  bad-size : ¬ Sized s → LayoutRefusal z s FileSize
-  wrong-mark : Sized s → ¬ Marked s → LayoutRefusal z s Mark
-  too-many : Sized s → Marked s → ¬ (count s ≤ maxEvents) → LayoutRefusal z s EventCount
-  bad-distance : Sized s → Marked s → count s ≤ maxEvents → ¬ Pointed z s → LayoutRefusal z s Distance
-  unreadable : Sized s → Marked s → count s ≤ maxEvents → Pointed z s → ¬ Readable (preamble s) → LayoutRefusal z s Preamble
+-- the rows of the layout
+abbrev pub layoutRows : ℕ → List ℕ → List Row
+layoutRows z s =
+    row 1 nothing (¬ Sized s)
+    ∷ row 2 nothing (¬ Marked s)
+    ∷ row 3 nothing (¬ (count s ≤ maxEvents))
+    ∷ row 4 nothing (¬ Pointed z s)
+    ∷ row 13 nothing (¬ Readable (preamble s))
+    ∷ []
 
 -- what a file with the layout is made of, and where each event stands in it
 pub record Parts (z : ℕ) (s : List ℕ) : Type 0 where
@@ -87,11 +90,6 @@ pub record Parts (z : ℕ) (s : List ℕ) : Type 0 where
   pub number : length (events z s) ≡ count s
   pub each : (k : ℕ) → Valid (events z s) k → at (events z s) k ≡ eventAt s (start s + z * (k - 1))
 
--- what the first refusal, or that there is none, means
-abbrev pub LayoutAnswer : ℕ → List ℕ → Option Refusal → Type 0
-LayoutAnswer z s none = Layout z s
-LayoutAnswer z s (some r) = LayoutRefusal z s r
-
 -- ---- computed
 
 unfoldable pub isMarked : List ℕ → Bool
@@ -100,21 +98,21 @@ isMarked s = eqb (byte s (length s - 2)) markFirst && eqb (byte s (length s - 1)
 unfoldable pub isPointed : ℕ → List ℕ → Bool
 isPointed z s = eqb (distance s) (trailerBytes + z * count s) && leb (distance s) (length s)
 
-unfoldable pub layoutRefusal : ℕ → List ℕ → Option Refusal
-layoutRefusal z s =
-    cond (not (isFileSize (length s))) (some FileSize)
-    (cond (not (isMarked s)) (some Mark)
-    (cond (not (leb (count s) maxEvents)) (some EventCount)
-    (cond (not (isPointed z s)) (some Distance)
-    (cond (not (isReadable (preamble s))) (some Preamble) none))))
+-- the rows' tests, and the first refusal
+abbrev pub layoutTests : ℕ → List ℕ → List Bool
+layoutTests z s =
+    not (isFileSize (length s)) ∷ not (isMarked s) ∷ not (leb (count s) maxEvents) ∷ not (isPointed z s) ∷ not (isReadable (preamble s)) ∷ []
 
--- where a file's events stand, and how many they are
-abbrev pub spanOf : List ℕ → Span
-spanOf s = record { start = start s; events = count s }
+unfoldable pub layoutRefusal : ℕ → List ℕ → Option Refusal
+layoutRefusal z s = first (layoutTests z s) (FileSize ∷ Mark ∷ EventCount ∷ Distance ∷ Preamble ∷ [])
+
+-- where a file's events begin
+abbrev pub recordingOf : List ℕ → Recording
+recordingOf s = record { start = start s }
 
 -- what reading a file gives, by its refusal
 abbrev pub fileOf : List ℕ → Option Refusal → File
-fileOf s none = Good (spanOf s)
+fileOf s none = Good (recordingOf s)
 fileOf s (some r) = Refused r
 
 -- what `read_distance` asks: refusals 1 to 3 have no case, and the trailer counts n events
@@ -124,7 +122,7 @@ pub record Counted (s : List ℕ) (n : ℕ) : Type 0 where
   pub number : n ≡ count s
   pub few : n ≤ maxEvents
 
--- a file with the layout, and t says where its events stand
-pub record Placed (s : List ℕ) (t : Span) : Type 0 where
+-- a file with the layout, and t says where its events begin
+pub record Placed (s : List ℕ) (t : Recording) : Type 0 where
   pub layout : Layout eventBytes s
-  pub span : t ≡ spanOf s
+  pub span : t ≡ recordingOf s

@@ -1,3 +1,4 @@
 -- The format of a recording's file.
 pub mod Bytes
 pub mod Layout
+pub mod Readable

@@ -1,20 +1,63 @@
 // The format of a recording's file: the layout, and events out of bytes. No other crate reads an event's bytes or the trailer's.
 use limits::Event;
+use limits::Recording;
 use limits::Refusal;
 use limits::Thread;
-use limits::Trace;
 ghost use mathlib.Core.Path.{_≡_};
 ghost use Prim.Native.Nat.{_+_, _≤_, _<_};
 ghost use lib.ListN.{length};
-ghost use Rattle.model.specs.Trace.{Valid, at, threadOf, kindOf, objectOf, does};
+ghost use Rattle.model.specs.Trace.{Valid, at, threadOf, kindOf, objectOf};
 ghost use Rattle.limits.specs.Limits.{eventBytes};
 ghost use Rattle.format.specs.Bytes.{number16, number32, trace, plain};
 ghost use Rattle.format.specs.Layout.{Sized, Counted, isMarked, layoutRefusal, fileOf, Placed, eventPart};
+ghost use Rattle.format.specs.Readable.{isReadableByte, isReadable};
+
+// A byte of a preamble.
+pub struct NoteByte {
+    pub value: u8,
+}
+
+impl NoteByte {
+    pub const LINE_FEED: u8 = 0x0A;
+
+    // The lowest and the highest of the others.
+    pub const LOWEST: u8 = 0x20;
+
+    pub const HIGHEST: u8 = 0x7E;
+
+    // May a preamble hold it?
+    pub fn is_readable(self) -> bool
+        ensures { λ r. ⌜ r ≡ isReadableByte (self .value) ⌝ }
+    {
+        if self.value == NoteByte::LINE_FEED {
+            return true;
+        }
+        if self.value < NoteByte::LOWEST {
+            return false;
+        }
+        self.value <= NoteByte::HIGHEST
+    }
+}
+
+// May a preamble be these bytes?
+pub fn readable(s: &[u8]) -> bool
+    ensures { λ r. ⌜ r ≡ isReadable (now (s .entry)) ⌝ }
+{
+    let mut i = 0;
+    while i < s.len() {
+        let b = NoteByte { value: s[i] };
+        if !b.is_readable() {
+            return false;
+        }
+        i += 1;
+    }
+    true
+}
 
 // What reading a file gives.
 pub enum File {
     Refused(Refusal),
-    Good(Trace),
+    Good(Recording),
 }
 
 fn wide(b: u8) -> usize
@@ -45,10 +88,10 @@ fn marked(file: &[u8]) -> bool
     ensures { λ r. ⌜ r ≡ isMarked (now (file .entry)) ⌝ }
 {
     let len = file.len();
-    if file[len - 2] != Trace::MARK_FIRST {
+    if file[len - 2] != Recording::MARK_FIRST {
         return false;
     }
-    file[len - 1] == Trace::MARK_SECOND
+    file[len - 1] == Recording::MARK_SECOND
 }
 
 // Refusals 4 and 13, in their order, where the trailer counts so many events.
@@ -57,18 +100,18 @@ fn read_distance(file: &[u8], events: usize) -> File
     ensures { λ r. ⌜ r ≡ fileOf (now (file .entry)) (layoutRefusal eventBytes (now (file .entry))) ⌝ }
 {
     let len = file.len();
-    let distance = read32(file, len - Trace::TRAILER_BYTES);
+    let distance = read32(file, len - Recording::TRAILER_BYTES);
     if len < distance {
         return File::Refused(Refusal::Distance);
     }
-    if distance != Trace::TRAILER_BYTES + Event::BYTES * events {
+    if distance != Recording::TRAILER_BYTES + Event::BYTES * events {
         return File::Refused(Refusal::Distance);
     }
     let start = len - distance;
-    if !preambles::readable(&file[..start]) {
+    if !readable(&file[..start]) {
         return File::Refused(Refusal::Preamble);
     }
-    File::Good(Trace { start, events })
+    File::Good(Recording { start })
 }
 
 // Refusals 2 to 4 and 13, in their order.
@@ -80,7 +123,7 @@ fn read_trailer(file: &[u8]) -> File
         return File::Refused(Refusal::Mark);
     }
     let events = read16(file, file.len() - 4);
-    if !Trace::events_in_limit(events) {
+    if !Recording::events_in_limit(events) {
         return File::Refused(Refusal::EventCount);
     }
     read_distance(file, events)
@@ -90,19 +133,19 @@ fn read_trailer(file: &[u8]) -> File
 pub fn read(file: &[u8]) -> File
     ensures { λ r. ⌜ r ≡ fileOf (now (file .entry)) (layoutRefusal eventBytes (now (file .entry))) ⌝ }
 {
-    if !Trace::bytes_in_limit(file.len()) {
+    if !Recording::bytes_in_limit(file.len()) {
         return File::Refused(Refusal::FileSize);
     }
     read_trailer(file)
 }
 
 // The bytes of the events of a file that has been read.
-pub fn events<'a>(file: &'a [u8], t: Trace) -> &'a [u8]
+pub fn events<'a>(file: &'a [u8], t: Recording) -> &'a [u8]
     requires { ⌜ Placed (now file) t ⌝ }
     ensures { λ r. ⌜ now r ≡ eventPart eventBytes (now (file .entry)) ⌝ }
 {
     let start = t.start;
-    let end = file.len() - Trace::TRAILER_BYTES;
+    let end = file.len() - Recording::TRAILER_BYTES;
     &file[start..end]
 }
 
@@ -135,17 +178,6 @@ pub fn object_at(ev: &[u8], k: usize) -> usize
     ensures { λ r. ⌜ r ≡ objectOf (trace (now (ev .entry))) k ⌝ }
 {
     read16(ev, Event::BYTES * (k - 1) + 2)
-}
-
-// Is event k of this kind, on this object?
-pub fn is_event(ev: &[u8], k: usize, kind: u8, object: usize) -> bool
-    requires { ⌜ Valid (trace (now ev)) k ⌝ }
-    ensures { λ r. ⌜ r ≡ does (trace (now (ev .entry))) kind object k ⌝ }
-{
-    if kind_at(ev, k) != kind {
-        return false;
-    }
-    object_at(ev, k) == object
 }
 
 // Event k.

@@ -4,25 +4,29 @@ use native.Mathlib.Omega.{arith}
 use mathlib.Core.Path.{_≡_, refl, sym, _∙_, ap, ap₂}
 use mathlib.Core.Logic.{_⊎_, inl, inr, ⊎-elim}
 use mathlib.Core.Bool.{Bool, true, false, not}
+use mathlib.Core.Option.{Option, some}
 use mathlib.Core.List.{List, _∷_}
-use lib.ListN.{getD}
+use lib.ListN.{getD, drop}
 use lib.Dec.{eqb, leb}
 use mir.Val.{Fits}
 use mir.Syntax.{w8, w16, w64}
 use borrow.Author.Tests.{eq-eqb, ne-eqb, le-leb, lt-leb, leb-true, leb-false, not-true, not-false}
 use Rattle.model.specs.Trace.{Trace, Event, at, acquire, release, threadOf, kindOf, objectOf, does}
 use Rattle.model.specs.Lists.{before}
-use Rattle.model.specs.Good.{KnownKind, maxThread, maxObject, depth, holder, Free, Held}
-use Rattle.model.specs.Refusals.{InLimits, EventRefusal, unknown-kind, thread-over, object-over, lock-held, not-holder, isKnownKind}
-use Rattle.model.proofs.RefusalsExact.{GoodEvent, known-true, true-known, good-clean, event-refusal-exactly}
+use Rattle.model.specs.Good.{KnownKind, maxThread, maxObject, depth, holder, Free, Held, isKnownKind}
+use Rattle.model.specs.Rows.{Answer, First}
+use Rattle.model.specs.Refusals.{InLimits, eventRows}
+use Rattle.decision.proofs.RefusalsExact.{GoodEvent, known-true, true-known}
 use Rattle.model.proofs.Locks.{depth-before}
 use Rattle.model.proofs.Tests.{test-false, true-does, false-does, true-either}
 use Rattle.format.specs.Bytes.{plain}
 use Rattle.limits.specs.declared.Event.{Event as Decoded}
+use Rattle.limits.specs.Refusals.{paper}
+use Rattle.limits.specs.declared.Refusal.{Refusal}
 use Rattle.limits.specs.declared.Refusal.the-variants.{Kind, Thread, Object, LockHeld, NotHolder}
-use Rattle.judging.specs.Judged.{refusalAt}
 use Rattle.judging.specs.Walk.{Ready, effectOf}
 use Rattle.judging.specs.declared.Effect.the-variants.{Nothing, Hold, Refused}
+use Rattle.judging.proofs.JudgedExact.{event-exactly, good-clean}
 
 -- ---- a lock is held no deeper than events stand before, so that one level more fits
 
@@ -47,9 +51,13 @@ module _ (t : Trace) (k : ℕ) (e : Decoded) (is : plain e ≡ at t k) where
   object-is : e .object ≡ objectOf t k
   object-is = ap (λ (x : Event). x .object) is
 
-stops : (t : Trace) (k n : ℕ) → EventRefusal t k (suc n) → Refused (refusalAt (suc n) k) ≡ effectOf t k
+stops : (t : Trace) (k : ℕ) (r : Refusal) → First (eventRows t k) (some (paper r)) → Refused r ≡ effectOf t k
 unfolding effectOf
-stops t k n r = rw (event-refusal-exactly t k (suc n) (λ z. omega arith) .1 r)
+stops t k r f = rw (event-exactly t k (some r) .1 f)
+
+-- within the limits 5 to 7 have no case
+past : (t : Trace) (k : ℕ) → InLimits t k → (o : Option Answer) → First (drop 3 (eventRows t k)) o → First (eventRows t k) o
+past t k l o f = inr ((λ n. n (l .kind)), inr ((λ n. n (l .thread)), inr ((λ n. n (l .object)), f)))
 
 -- ---- the limits
 
@@ -58,30 +66,27 @@ module _ (t : Trace) (k : ℕ) (e : Decoded) (is : plain e ≡ at t k) (a : Bool
   known-is = ea ∙ ap isKnownKind (kind-is t k e is)
 
   pub kind-unknown : not a ≡ true → Refused (Kind k) ≡ effectOf t k
-  unfolding refusalAt
-  kind-unknown h = stops t k 4 (unknown-kind refl (test-false (true-known t k) (sym known-is ∙ not-true a h)))
+  kind-unknown h = stops t k (Kind k) (inl (test-false (true-known t k) (sym known-is ∙ not-true a h), refl))
 
   module _ (ok : not a ≡ false) (b : Bool) (eb : b ≡ leb (e .thread .number) maxThread) where
     known : KnownKind (kindOf t k)
     known = known-true t k (sym known-is ∙ not-false a ok)
 
     pub thread-over-limit : not b ≡ true → Refused (Thread k) ≡ effectOf t k
-    unfolding refusalAt
     thread-over-limit h =
         let n = leb-false (e .thread .number) maxThread (sym eb ∙ not-true b h) in
         let d = thread-is t k e is in
-        stops t k 5 (thread-over refl known (λ q. omega arith))
+        stops t k (Thread k) (inr ((λ f. f known), inl ((λ q. omega arith), refl)))
 
     module _ (low : not b ≡ false) (d : Bool) (ed : d ≡ leb (e .object) maxObject) where
       thread-low : threadOf t k ≤ maxThread
       thread-low = let l = leb-true (e .thread .number) maxThread (sym eb ∙ not-false b low) in let y = thread-is t k e is in omega arith
 
       pub object-over-limit : not d ≡ true → Refused (Object k) ≡ effectOf t k
-      unfolding refusalAt
       object-over-limit h =
           let n = leb-false (e .object) maxObject (sym ed ∙ not-true d h) in
           let x = object-is t k e is in
-          stops t k 6 (object-over refl known thread-low (λ q. omega arith))
+          stops t k (Object k) (inr ((λ f. f known), inr ((λ f. f thread-low), inl ((λ q. omega arith), refl))))
 
       pub within-limits : not d ≡ false → InLimits t k
       within-limits ob =
@@ -155,19 +160,20 @@ module _ {t : Trace} {k : ℕ} {holders depths : List ℕ} (p : Ready t k holder
     deepens f = let x = thread-is t k e is in let h = held-by in acquired (inr (omega arith))
 
     pub was-held : (getD holders (e .object) 0 ≡ 0 → ⊥) → (getD holders (e .object) 0 ≡ e .thread .number + 1 → ⊥) → Refused (LockHeld k) ≡ effectOf t k
-    unfolding refusalAt
     was-held f g =
         let x = thread-is t k e is in
         let h = held-by in
-        stops t k 7 (lock-held refl limits acquires (λ s. ⊎-elim (λ z. f (omega arith)) (λ z. g (omega arith)) s))
+        stops t k (LockHeld k) (past t k limits _ (inl ((acquires, (λ s. ⊎-elim (λ z. f (omega arith)) (λ z. g (omega arith)) s)), refl)))
 
   module _ (y : e .kind ≡ release) where
     releases : kindOf t k ≡ release
     releases = sym (kind-is t k e is) ∙ y
 
     pub not-by-holder : (getD holders (e .object) 0 ≡ e .thread .number + 1 → ⊥) → Refused (NotHolder k) ≡ effectOf t k
-    unfolding refusalAt
-    not-by-holder f = let x = thread-is t k e is in let h = held-by in stops t k 8 (not-holder refl limits releases (λ z. f (omega arith)))
+    not-by-holder f =
+        let x = thread-is t k e is in
+        let h = held-by in
+        stops t k (NotHolder k) (past t k limits _ (inr ((λ p. let a = p .0 in let r = releases in omega arith), inl ((releases, (λ z. f (omega arith))), refl))))
 
     module _ (f : getD holders (e .object) 0 ≡ e .thread .number + 1) where
       held : Held t (before k) k

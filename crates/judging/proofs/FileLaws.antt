@@ -4,26 +4,29 @@ use native.Mathlib.Omega.{arith}
 use mathlib.Core.Path.{_≡_, sym, _∙_, ap}
 use mathlib.Core.Logic.{_↔_}
 use mathlib.Core.Option.{Option, none, some}
-use mathlib.Core.List.{List}
+use mathlib.Core.Bool.{Bool}
+use mathlib.Core.List.{List, map, _++_}
 use lib.ListN.{length}
-use mir.Val.{Fits}
-use mir.Syntax.{w16}
 use Rattle.model.specs.Good.{Good, maxEvents}
+use Rattle.model.specs.Rows.{Row, First, Quiet, Tested, first, either, said}
+use Rattle.model.proofs.RowsExact.{both-quiet, tests-first, append-first}
 use Rattle.limits.specs.Limits.{eventBytes}
+use Rattle.limits.specs.Refusals.{paper, Asked, settled}
+use Rattle.limits.proofs.PaperLaws.{asked-exactly}
 use Rattle.format.specs.Bytes.{trace}
-use Rattle.format.specs.Layout.{Placed, eventPart, events, layoutRefusal, fileOf}
-use Rattle.format.proofs.LayoutExact.{layout-exactly}
+use Rattle.format.specs.Layout.{Placed, eventPart, layoutRefusal, fileOf}
+use Rattle.format.proofs.LayoutExact.{layout-none}
 use Rattle.format.proofs.PartLaws.{number-of-events, part-trace, read-good, read-refused}
 use Rattle.limits.specs.declared.Refusal.{Refusal}
-use Rattle.limits.specs.declared.Trace.{Trace as Span}
+use Rattle.limits.specs.declared.Recording.{Recording}
 use Rattle.format.specs.declared.File.{File}
 use Rattle.format.specs.declared.File.the-variants.{Refused as FileRefused, Good as FileGood}
-use Rattle.judging.specs.Judged.{GoodFile, FileAnswer, fileRefusal}
+use Rattle.judging.specs.Judged.{GoodFile, FileAnswer, fileRows, fileRefusal}
 use Rattle.judging.specs.Walk.{effectOf}
-use Rattle.judging.specs.declared.Locks.{Locks}
+use Rattle.limits.specs.declared.Locks.{Locks}
 use Rattle.judging.specs.declared.Effect.{Effect}
 use Rattle.judging.specs.declared.Effect.the-variants.{Refused}
-use Rattle.judging.proofs.JudgedExact.{file-exactly}
+use Rattle.judging.proofs.JudgedExact.{file-first, quiet-good-file, file-exactly}
 use Rattle.judging.proofs.WalkLaws.{Judging, judging-stop, judging-end}
 
 four : 4 ≤ eventBytes
@@ -33,14 +36,32 @@ four = omega arith
 pub meaning : (s : List ℕ) (o : Option Refusal) → (fileRefusal eventBytes s ≡ o) ↔ FileAnswer eventBytes s o
 meaning s o = file-exactly eventBytes four s o
 
+pub quiet-file : (s : List ℕ) → Quiet (fileRows eventBytes s) ↔ GoodFile eventBytes s
+quiet-file s = quiet-good-file eventBytes four s
+
+-- rows l after those of a file
+module _ (s : List ℕ) (l : List Row) (m : List Bool) (n : List Refusal) (t : Tested m l) (e : map paper n ≡ map (λ (r : Row). r .answer) l) where
+  pub question-first : First (fileRows eventBytes s ++ l) (said paper (either (fileRefusal eventBytes s) (first m n)))
+  question-first = append-first paper (fileRows eventBytes s) l (fileRefusal eventBytes s) (first m n) (file-first eventBytes four s) (tests-first paper m n l t e)
+
+  -- each answer exactly in its case
+  pub question-asked : {A : Type 0} {refused : Refusal → A} {Means : A → Type 0} {a : A} → (GoodFile eventBytes s → Quiet l → (x : A) → (a ≡ x) ↔ Means x)
+      → (x : A) → (settled refused a (either (fileRefusal eventBytes s) (first m n)) ≡ x) ↔ Asked (fileRows eventBytes s ++ l) refused Means x
+  question-asked is = asked-exactly (λ q. let p = both-quiet (fileRows eventBytes s) l q in is (quiet-file s .0 (p .0)) (p .1)) (either (fileRefusal eventBytes s) (first m n)) question-first
+
+-- the same where only the file is refused
+pub file-asked : (s : List ℕ) {A : Type 0} {refused : Refusal → A} {Means : A → Type 0} {a : A} → (GoodFile eventBytes s → (x : A) → (a ≡ x) ↔ Means x)
+    → (x : A) → (settled refused a (fileRefusal eventBytes s) ≡ x) ↔ Asked (fileRows eventBytes s) refused Means x
+file-asked s is = asked-exactly (λ q. is (quiet-file s .0 q)) (fileRefusal eventBytes s) (file-first eventBytes four s)
+
 -- ---- judging the events of a file that has been read
 
-module _ (s : List ℕ) (t : Span) (p : Placed s t) (ev : List ℕ) (part : ev ≡ eventPart eventBytes s) where
+module _ (s : List ℕ) (t : Recording) (p : Placed s t) (ev : List ℕ) (part : ev ≡ eventPart eventBytes s) where
   pub few-events : length (trace ev) ≤ maxEvents
   few-events = let n = number-of-events eventBytes s (p .layout) four in let l = p .layout .few in rw (part-trace s ev part) (omega arith)
 
   clean : layoutRefusal eventBytes s ≡ none
-  clean = layout-exactly s eventBytes none .1 (p .layout)
+  clean = layout-none s eventBytes .1 (p .layout)
 
   module _ {n k : ℕ} {locks : Locks} (j : Judging (trace ev) n k locks) where
     pub events-refused : k ≤ n → (u : Effect) → u ≡ effectOf (trace ev) k → (r : Refusal) → u ≡ Refused r
@@ -60,10 +81,10 @@ module _ (s : List ℕ) (f : File) where
     unfolding fileRefusal
     layout-refused r e = rw (read-refused s (layoutRefusal eventBytes s) r (sym is ∙ e))
 
-    pub layout-good : (t : Span) → f ≡ FileGood t → Placed s t
+    pub layout-good : (t : Recording) → f ≡ FileGood t → Placed s t
     layout-good t e =
         let g = read-good s (layoutRefusal eventBytes s) t (sym is ∙ e) in
-        record { layout = layout-exactly s eventBytes none .0 (g .0); span = g .1 }
+        record { layout = layout-none s eventBytes .0 (g .0); span = g .1 }
 
   -- ---- what a good judgement says
 
@@ -71,7 +92,7 @@ module _ (s : List ℕ) (f : File) where
     pub judged-refused : (r : Refusal) → f ≡ FileRefused r → fileRefusal eventBytes s ≡ some r
     judged-refused r e = read-refused s (fileRefusal eventBytes s) r (sym is ∙ e)
 
-    module _ (t : Span) (e : f ≡ FileGood t) where
+    module _ (t : Recording) (e : f ≡ FileGood t) where
       pub judged-clean : fileRefusal eventBytes s ≡ none
       judged-clean = read-good s (fileRefusal eventBytes s) t (sym is ∙ e) .0
 
@@ -80,15 +101,6 @@ module _ (s : List ℕ) (f : File) where
 
       pub judged-placed : Placed s t
       judged-placed = record { layout = judged-good .layout; span = read-good s (fileRefusal eventBytes s) t (sym is ∙ e) .1 }
-
-      -- the number of events
-      pub judged-number : t .events ≡ length (events eventBytes s)
-      judged-number =
-          let p = judged-placed in
-          ap (λ (x : Span). x .events) (p .span) ∙ sym (number-of-events eventBytes s (p .layout) four)
-
-      pub judged-number-fits : Fits w16 (t .events)
-      judged-number-fits = let n = judged-number in let g = judged-good .good .size in record { fits = omega arith }
 
       pub judged-trace : (ev : List ℕ) → ev ≡ eventPart eventBytes s → Good (trace ev)
       judged-trace ev part = rw (part-trace s ev part) (judged-good .good)

@@ -1,81 +1,73 @@
 -- A file's refusal is given exactly in its case and order, and none exactly when the file is good.
 use Prim.Native.Nat.{ℕ, _≤_}
 use native.Mathlib.Omega.{arith}
-use mathlib.Core.Path.{_≡_, refl, ap}
-use mathlib.Core.Logic.{_↔_}
+use mathlib.Core.Path.{_≡_, refl}
+use mathlib.Core.Logic.{_↔_, Iff·trans}
 use mathlib.Core.Option.{Option, none, some}
-use mathlib.Core.List.{List}
-use lib.Dec.{eqb}
+use mathlib.Core.List.{List, [], _∷_}
 use Rattle.model.specs.Trace.{Trace}
-use Rattle.model.specs.Refusals.{RefusedEvent, EventRefusal, unknown-kind, thread-over, object-over, lock-held, not-holder, refusal}
-use Rattle.model.proofs.Tests.{by-cases}
-use Rattle.model.proofs.RefusalsExact.{refusal-exactly, good-exactly}
-use Rattle.limits.specs.Refusals.{numberOf, eventOf}
-use Rattle.format.specs.Layout.{Layout, layoutRefusal, events}
-use Rattle.format.proofs.LayoutExact.{layout-exactly}
+use Rattle.model.specs.Lists.{numbers}
+use Rattle.model.specs.Rows.{First, Quiet, said, rowsOf}
+use Rattle.model.specs.Refusals.{eventRows, traceRows}
+use Rattle.decision.specs.Refusals.{eventTests}
+use Rattle.model.proofs.RowsExact.{none-quiet, quiet-none, quiet-both, both-quiet, tests-first, append-first, first-exactly}
+use Rattle.decision.proofs.RefusalsExact.{GoodEvent, event-tested, good-quiet, quiet-good, good-exactly}
+use Rattle.limits.specs.Refusals.{paper, eventRefusals}
+use Rattle.limits.proofs.PaperLaws.{event-numbers, paper-one, refused-exactly, quiet-exactly}
+use Rattle.format.specs.Layout.{layoutRows, layoutRefusal, events}
+use Rattle.format.proofs.LayoutExact.{layout-exactly, layout-quiet}
 use Rattle.format.proofs.PartLaws.{number-of-events}
 use Rattle.limits.specs.declared.Refusal.{Refusal}
-use Rattle.limits.specs.declared.Refusal.the-variants.{FileSize, Mark, EventCount, Distance, Kind, Thread, Object, LockHeld, NotHolder, ListShort, NotConflicting, AreaShort, Preamble}
-use Rattle.limits.specs.declared.EventNumber.the-variants.{At}
-use Rattle.judging.specs.Judged.{by-layout, by-event, FileAnswer, refusalAt, named, orElse, fileRefusal}
+use Rattle.judging.specs.Judged.{GoodFile, FileAnswer, fileRows, eventRefusal, refusalIn, fileRefusal}
 
--- ---- the refusal of an event has the paper's number and the event's
+-- ---- events
 
-number-right : (t : Trace) (k n : ℕ) → EventRefusal t k n → numberOf (refusalAt n k) ≡ n
-unfolding refusalAt
-number-right t k n (unknown-kind e x) = rw e
-number-right t k n (thread-over e p x) = rw e
-number-right t k n (object-over e p q x) = rw e
-number-right t k n (lock-held e l a x) = rw e
-number-right t k n (not-holder e l a x) = rw e
+module _ (t : Trace) where
+  event-first : (k : ℕ) → First (eventRows t k) (said paper (eventRefusal t k))
+  unfolding eventRefusal
+  event-first k = tests-first paper (eventTests t k) (eventRefusals k) (eventRows t k) (event-tested t k) (event-numbers t k)
 
-event-right : (n k : ℕ) → eventOf (refusalAt n k) ≡ At k
-unfolding refusalAt
-event-right n k =
-    by-cases (eqb n 5) (λ a. rw a) (λ a.
-    by-cases (eqb n 6) (λ b. rw (a, b)) (λ b.
-    by-cases (eqb n 7) (λ c. rw (a, b, c)) (λ c.
-    by-cases (eqb n 8) (λ d. rw (a, b, c, d)) (λ d. rw (a, b, c, d)))))
+  pub event-exactly : (k : ℕ) (o : Option Refusal) → (eventRefusal t k ≡ o) ↔ First (eventRows t k) (said paper o)
+  event-exactly k o = first-exactly paper paper-one (eventRows t k) (eventRefusal t k) (event-first k) o
 
--- a refusal with that number and that event is the one
-only-right : (r : Refusal) (n k : ℕ) → numberOf r ≡ n → eventOf r ≡ At k → refusalAt n k ≡ r
-unfolding refusalAt
-only-right FileSize n k e f = let z : _≡_ {A = ℕ} 0 1 = cc in absurd (omega arith)
-only-right Mark n k e f = let z : _≡_ {A = ℕ} 0 1 = cc in absurd (omega arith)
-only-right EventCount n k e f = let z : _≡_ {A = ℕ} 0 1 = cc in absurd (omega arith)
-only-right Distance n k e f = let z : _≡_ {A = ℕ} 0 1 = cc in absurd (omega arith)
-only-right (Kind j) n k e f = rw (← e) cc
-only-right (Thread j) n k e f = rw (← e) cc
-only-right (Object j) n k e f = rw (← e) cc
-only-right (LockHeld j) n k e f = rw (← e) cc
-only-right (NotHolder j) n k e f = rw (← e) cc
-only-right ListShort n k e f = let z : _≡_ {A = ℕ} 0 1 = cc in absurd (omega arith)
-only-right NotConflicting n k e f = let z : _≡_ {A = ℕ} 0 1 = cc in absurd (omega arith)
-only-right AreaShort n k e f = let z : _≡_ {A = ℕ} 0 1 = cc in absurd (omega arith)
-only-right Preamble n k e f = let z : _≡_ {A = ℕ} 0 1 = cc in absurd (omega arith)
+  pub good-clean : (k : ℕ) → GoodEvent t k → eventRefusal t k ≡ none
+  good-clean k g = event-exactly k none .1 (quiet-none (eventRows t k) (good-quiet t k g))
+
+  pub clean-good : (k : ℕ) → eventRefusal t k ≡ none → GoodEvent t k
+  clean-good k e = quiet-good t k (none-quiet (eventRows t k) (event-exactly k none .0 e))
+
+  list-first : (l : List ℕ) → First (rowsOf (eventRows t) l) (said paper (refusalIn t l))
+  unfolding refusalIn
+  list-first [] = refl
+  list-first (k ∷ l) = append-first paper (eventRows t k) (rowsOf (eventRows t) l) (eventRefusal t k) (refusalIn t l) (event-first k) (list-first l)
+
+  -- refusals 5 to 9, each exactly in its case and in this order
+  pub events-exactly : (o : Option Refusal) → (refusalIn t (numbers t) ≡ o) ↔ First (traceRows t) (said paper o)
+  events-exactly o = first-exactly paper paper-one (traceRows t) (refusalIn t (numbers t)) (list-first (numbers t)) o
 
 -- ---- files
 
 module _ (z : ℕ) (h : 4 ≤ z) (s : List ℕ) where
-  judged : (o : Option Refusal) → layoutRefusal z s ≡ o → (p : Option RefusedEvent) → refusal (events z s) ≡ p → FileAnswer z s (orElse o (named p))
-  judged (some r) e p f = by-layout (layout-exactly s z (some r) .0 e)
-  judged none e none f =
-      let l : Layout z s = layout-exactly s z none .0 e in
-      let n = number-of-events z s l h in
-      let w = l .few in
-      record { layout = l; good = good-exactly (events z s) (omega arith) .0 f }
-  judged none e (some x) f =
-      let g = refusal-exactly (events z s) x .0 f in
-      by-event (layout-exactly s z none .0 e) x g (number-right (events z s) (x .event) (x .code) (g .refused)) (event-right (x .code) (x .event))
-
-  found : (o : Option Refusal) → FileAnswer z s o → fileRefusal z s ≡ o
+  pub file-first : First (fileRows z s) (said paper (fileRefusal z s))
   unfolding fileRefusal
-  found none g = rw (layout-exactly s z none .1 (g .layout), good-exactly (events z s) (g .good .size) .1 (g .good))
-  found (some r) (by-layout p) = rw (layout-exactly s z (some r) .1 p)
-  found (some r) (by-event l x f a b) =
-      rw (layout-exactly s z none .1 l, refusal-exactly (events z s) x .1 f) (ap some (only-right r (x .code) (x .event) a b))
+  file-first =
+      let t = events z s in
+      append-first paper (layoutRows z s) (traceRows t) (layoutRefusal z s) (refusalIn t (numbers t)) (layout-exactly s z (layoutRefusal z s) .0 refl) (list-first t (numbers t))
+
+  -- no row is the case exactly when the file is good
+  pub quiet-good-file : Quiet (fileRows z s) ↔ GoodFile z s
+  quiet-good-file =
+      let t = events z s in (
+        (λ y.
+            let q = both-quiet (layoutRows z s) (traceRows t) y in
+            let l = layout-quiet s z .0 (q .0) in
+            let n = number-of-events z s l h in
+            let w = l .few in
+            record { layout = l; good = good-exactly t (omega arith) .0 (quiet-none (traceRows t) (q .1)) }),
+        (λ g. quiet-both (layoutRows z s) (traceRows t) (layout-quiet s z .1 (g .layout)) (none-quiet (traceRows t) (good-exactly t (g .good .size) .1 (g .good)))),
+      )
 
   -- each answer exactly in its case
   pub file-exactly : (o : Option Refusal) → (fileRefusal z s ≡ o) ↔ FileAnswer z s o
-  unfolding fileRefusal
-  file-exactly o = ((λ e. rw e at (judged (layoutRefusal z s) refl (refusal (events z s)) refl)), found o)
+  file-exactly (some r) = refused-exactly (fileRows z s) (fileRefusal z s) file-first r
+  file-exactly none = Iff·trans (quiet-exactly (fileRows z s) (fileRefusal z s) file-first) quiet-good-file

@@ -1,12 +1,12 @@
 -- What the walk over the events knows, and its ways.
-use Prim.Native.Nat.{ℕ, zero, suc, _+_, _*_, _≤_, _<_}
+use Prim.Native.Nat.{ℕ, zero, suc, _+_, _-_, _*_, _≤_, _<_}
 use native.Mathlib.Omega.{arith}
 use native.Mathlib.Numerals.{add-one}
-use mathlib.Core.Path.{_≡_, refl, sym, _∙_, ap}
+use mathlib.Core.Path.{_≡_, refl, sym, _∙_}
 use mathlib.Core.Logic.{_≢_}
 use mathlib.Core.Bool.{true, false, cond, _||_, Bool}
-use mathlib.Core.Option.{none, some}
-use mathlib.Core.List.{List, _∷_}
+use mathlib.Core.Option.{Option, none, some}
+use mathlib.Core.List.{List, [], _∷_, reverseAux}
 use lib.ListN.{length, getD, set, length-set, getD-replicate, length-replicate}
 use lib.Seq.{getD-set-same, getD-set-other}
 use lib.Dec.{eqb}
@@ -14,17 +14,18 @@ use mir.Val.{Fits}
 use mir.Syntax.{w64}
 use borrow.Author.Tests.{eqb-true, eqb-false}
 use Rattle.model.specs.Trace.{Trace, Valid, acquire, release, kindOf, objectOf, does}
-use Rattle.model.specs.Lists.{before}
+use Rattle.model.specs.Lists.{upTo, before, numbers}
 use Rattle.model.specs.Good.{maxEvents, maxObject, depth, holder}
-use Rattle.model.specs.Refusals.{eventRefusal, refusal}
 use Rattle.model.proofs.Tests.{by-cases, false-does, does-true, false-test}
-use Rattle.model.proofs.RefusalsExact.{refused-first, refused-none, clean-good}
+use Rattle.model.proofs.Lists.{numbers-split}
 use Rattle.limits.specs.declared.Refusal.{Refusal}
-use Rattle.judging.specs.Judged.{refusalAt, named}
-use Rattle.judging.specs.Walk.{noLocks, LockTable, Ready, locking, refusedOr, effectOf}
-use Rattle.judging.specs.declared.Locks.{Locks}
+use Rattle.judging.specs.Judged.{eventRefusal, refusalIn}
+use Rattle.judging.specs.Walk.{LockTable, Ready, locking, refusedOr, effectOf}
+use Rattle.limits.specs.Limits.{noLocks}
+use Rattle.limits.specs.declared.Locks.{Locks}
 use Rattle.judging.specs.declared.Effect.{Effect}
 use Rattle.judging.specs.declared.Effect.the-variants.{Nothing, Hold, Refused}
+use Rattle.judging.proofs.JudgedExact.{clean-good}
 
 -- the events before k are good, and the tables are theirs
 pub record Judging (t : Trace) (n k : ℕ) (locks : Locks) : Type 0 where
@@ -32,7 +33,7 @@ pub record Judging (t : Trace) (n k : ℕ) (locks : Locks) : Type 0 where
   pub few : n ≤ maxEvents
   pub positive : 1 ≤ k
   pub high : k ≤ n + 1
-  pub clean : (j : ℕ) → 1 ≤ j → j < k → eventRefusal t j ≡ 0
+  pub clean : (j : ℕ) → 1 ≤ j → j < k → eventRefusal t j ≡ none
   pub tables : LockTable t (before k) (locks .holder) (locks .depth)
   pub holder-wide : length (locks .holder) ≡ maxObject + 1
   pub depth-wide : length (locks .depth) ≡ maxObject + 1
@@ -44,27 +45,27 @@ module _ (t : Trace) (k : ℕ) where
   quiet c x ne = false-test (does-true t c x k) (λ p. ne (sym (p .1)))
 
   -- the effect, by the refusal of the event
-  stopped : (n : ℕ) (u : Effect) (r : Refusal) → refusedOr n k (locking t k) ≡ u → u ≡ Refused r → (n ≢ 0) × (refusalAt n k ≡ r)
-  stopped zero u r e f = absurd (never (eqb (kindOf t k) acquire || eqb (kindOf t k) release) _ _ (e ∙ f))
+  stopped : (o : Option Refusal) (u : Effect) (r : Refusal) → refusedOr o (locking t k) ≡ u → u ≡ Refused r → o ≡ some r
+  stopped none u r e f = absurd (never (eqb (kindOf t k) acquire || eqb (kindOf t k) release) _ _ (e ∙ f))
     where
       never : (b : Bool) (o d : ℕ) → cond b (Hold o d) Nothing ≡ Refused r → ⊥
       never true o d e = let z : _≡_ {A = ℕ} 0 1 = cc in omega arith
       never false o d e = let z : _≡_ {A = ℕ} 0 1 = cc in omega arith
-  stopped (suc n) u r e f = ((λ z. omega arith), cc)
+  stopped (some x) u r e f = cc
 
   -- an event that is not refused has its effect
-  unrefused : (v : Effect) → ((r : Refusal) → Refused r ≡ v → ⊥) → effectOf t k ≡ v → (eventRefusal t k ≡ 0) × (locking t k ≡ v)
+  unrefused : (v : Effect) → ((r : Refusal) → Refused r ≡ v → ⊥) → effectOf t k ≡ v → (eventRefusal t k ≡ none) × (locking t k ≡ v)
   unfolding effectOf
   unrefused v other e = go (eventRefusal t k) refl e
     where
-      go : (n : ℕ) → eventRefusal t k ≡ n → refusedOr n k (locking t k) ≡ v → (eventRefusal t k ≡ 0) × (locking t k ≡ v)
-      go zero q f = (q, f)
-      go (suc n) q f = absurd (other (refusalAt (suc n) k) f)
+      go : (o : Option Refusal) → eventRefusal t k ≡ o → refusedOr o (locking t k) ≡ v → (eventRefusal t k ≡ none) × (locking t k ≡ v)
+      go none q f = (q, f)
+      go (some r) q f = absurd (other r f)
 
-  passed : effectOf t k ≡ Nothing → (eventRefusal t k ≡ 0) × (locking t k ≡ Nothing)
+  passed : effectOf t k ≡ Nothing → (eventRefusal t k ≡ none) × (locking t k ≡ Nothing)
   passed e = unrefused Nothing (λ r f. let z : _≡_ {A = ℕ} 0 1 = cc in omega arith) e
 
-  held : (o d : ℕ) → effectOf t k ≡ Hold o d → (eventRefusal t k ≡ 0) × (locking t k ≡ Hold o d)
+  held : (o d : ℕ) → effectOf t k ≡ Hold o d → (eventRefusal t k ≡ none) × (locking t k ≡ Hold o d)
   held o d e = unrefused (Hold o d) (λ r f. let z : _≡_ {A = ℕ} 0 1 = cc in omega arith) e
 
   -- no lock changes
@@ -100,6 +101,21 @@ next-before : (k : ℕ) → 1 ≤ k → before (k + 1) ≡ k ∷ before k
 next-before zero p = absurd (omega arith)
 next-before (suc k) p = rw (add-one (suc k))
 
+-- ---- the first event that is refused
+
+module _ (t : Trace) where
+  clean-skip : (k : ℕ) (l : List ℕ) → ((j : ℕ) → 1 ≤ j → j ≤ k → eventRefusal t j ≡ none) → refusalIn t (reverseAux (upTo k) l) ≡ refusalIn t l
+  unfolding refusalIn
+  clean-skip zero l f = refl
+  clean-skip (suc k) l f = clean-skip k (suc k ∷ l) (λ j a b. f j a (omega arith)) ∙ rw (f (suc k) (omega arith) (omega arith))
+
+  refused-first : (k : ℕ) → Valid t k → ((j : ℕ) → 1 ≤ j → j < k → eventRefusal t j ≡ none) → (r : Refusal) → eventRefusal t k ≡ some r → refusalIn t (numbers t) ≡ some r
+  unfolding refusalIn
+  refused-first zero v f r e = absurd (let a = v .positive in omega arith)
+  refused-first (suc k) v f r e =
+      let b = v .bounded in
+      rw (numbers-split t (suc (length t - suc k)) k (omega arith)) (clean-skip k _ (λ j a c. f j a (omega arith)) ∙ rw e)
+
 -- ---- the ways
 
 pub judging-start : (t : Trace) (n : ℕ) (locks : Locks) → n ≡ length t → length t ≤ maxEvents
@@ -127,11 +143,11 @@ module _ {t : Trace} {n k : ℕ} {locks : Locks} (p : Judging t n k locks) (h : 
   pub judging-ready : Ready t k (locks .holder) (locks .depth)
   judging-ready = record { valid = judging-valid; few = let s = p .size in let f = p .few in omega arith; locks = p .tables }
 
-  more-clean : eventRefusal t k ≡ 0 → (j : ℕ) → 1 ≤ j → j < k + 1 → eventRefusal t j ≡ 0
+  more-clean : eventRefusal t k ≡ none → (j : ℕ) → 1 ≤ j → j < k + 1 → eventRefusal t j ≡ none
   more-clean e j a b = by-cases (eqb j k) (λ q. rw (eqb-true j k q) e) (λ q. let ne = eqb-false j k q in p .clean j a (omega arith))
 
   -- event k is good, and the new tables are those after it
-  next : eventRefusal t k ≡ 0 → (l : Locks) → length (l .holder) ≡ maxObject + 1 → length (l .depth) ≡ maxObject + 1
+  next : eventRefusal t k ≡ none → (l : Locks) → length (l .holder) ≡ maxObject + 1 → length (l .depth) ≡ maxObject + 1
       → LockTable t (k ∷ before k) (l .holder) (l .depth) → Judging t n (k + 1) l
   next e l v w f =
       record {
@@ -183,11 +199,10 @@ module _ {t : Trace} {n k : ℕ} {locks : Locks} (p : Judging t n k locks) (h : 
                 (p .tables .depth-is) (c .1) (λ j ne. after-other t k (before k) j ne .1);
           }))
 
-    pub judging-stop : (r : Refusal) → u ≡ Refused r → named (refusal t) ≡ some r
+    pub judging-stop : (r : Refusal) → u ≡ Refused r → refusalIn t (numbers t) ≡ some r
     unfolding effectOf
-    judging-stop r f =
-        let w = stopped t k (eventRefusal t k) u r (sym eu) f in
-        rw (refused-first t k judging-valid (w .0) (p .clean)) (ap some (w .1))
+    judging-stop r f = refused-first t k judging-valid (p .clean) r (stopped t k (eventRefusal t k) u r (sym eu) f)
 
-pub judging-end : {t : Trace} {n k : ℕ} {locks : Locks} → Judging t n k locks → n < k → named (refusal t) ≡ none
-judging-end {t} p h = rw (refused-none t (λ j v. let a = v .positive in let b = v .bounded in let s = p .size in p .clean j a (omega arith)))
+pub judging-end : {t : Trace} {n k : ℕ} {locks : Locks} → Judging t n k locks → n < k → refusalIn t (numbers t) ≡ none
+unfolding refusalIn
+judging-end {t} p h = clean-skip t (length t) [] (λ j a b. let s = p .size in p .clean j a (omega arith))

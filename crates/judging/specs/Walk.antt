@@ -1,21 +1,18 @@
 -- The walk over the events: the locks' holders and depths, and what each event does to them.
-use Prim.Native.Nat.{ℕ, zero, suc, _+_, _≤_}
+use Prim.Native.Nat.{ℕ, _≤_}
 use mathlib.Core.Path.{_≡_}
 use mathlib.Core.Bool.{cond, _||_}
+use mathlib.Core.Option.{Option, none, some}
 use mathlib.Core.List.{List, _∷_}
-use lib.ListN.{getD, length, replicate}
+use lib.ListN.{getD, length}
 use lib.Dec.{eqb}
 use Rattle.model.specs.Trace.{Trace, Valid, acquire, release, kindOf, objectOf}
 use Rattle.model.specs.Lists.{before}
 use Rattle.model.specs.Good.{maxEvents, maxObject, depth, holder}
-use Rattle.model.specs.Refusals.{eventRefusal}
-use Rattle.judging.specs.Judged.{refusalAt}
+use Rattle.judging.specs.Judged.{eventRefusal}
+use Rattle.limits.specs.declared.Refusal.{Refusal}
 use Rattle.judging.specs.declared.Effect.{Effect}
 use Rattle.judging.specs.declared.Effect.the-variants.{Nothing, Hold, Refused}
-
--- nobody holds any lock: the holders, and the depths
-unfoldable pub noLocks : List ℕ
-noLocks = replicate (maxObject + 1) 0
 
 -- two tables have who holds each lock after a history (0 for nobody, c + 1 for thread c), and how deep
 pub record LockTable (t : Trace) (h holders depths : List ℕ) : Type 0 where
@@ -35,11 +32,11 @@ locking t k =
     (Hold (holder t (objectOf t k) (k ∷ before k)) (depth t (objectOf t k) (k ∷ before k)))
     Nothing
 
--- event k with refusal n, 0 for none: it is refused, or has its effect
-abbrev pub refusedOr : ℕ → ℕ → Effect → Effect
-refusedOr zero k u = u
-refusedOr (suc n) k u = Refused (refusalAt (suc n) k)
+-- an event is refused, or has its effect
+abbrev pub refusedOr : Option Refusal → Effect → Effect
+refusedOr none u = u
+refusedOr (some r) u = Refused r
 
 -- what event k does after those before it
 unfoldable pub effectOf : Trace → ℕ → Effect
-effectOf t k = refusedOr (eventRefusal t k) k (locking t k)
+effectOf t k = refusedOr (eventRefusal t k) (locking t k)

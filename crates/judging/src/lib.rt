@@ -1,34 +1,16 @@
 // Judging a file: refusals 1 to 4, 13 and 5 to 9, in this order.
 use format::File;
 use limits::Event;
+use limits::Locks;
+use limits::Recording;
 use limits::Refusal;
-use limits::Trace;
 ghost use mathlib.Core.Path.{_≡_};
 ghost use Rattle.model.specs.Refusals.{InLimits};
 ghost use Rattle.limits.specs.Limits.{eventBytes};
 ghost use Rattle.format.specs.Bytes.{trace};
 ghost use Rattle.format.specs.Layout.{Placed, fileOf};
 ghost use Rattle.judging.specs.Judged.{fileRefusal};
-ghost use Rattle.judging.specs.Walk.{noLocks, Ready, effectOf};
-
-// The locks: who holds each (0 for nobody, c + 1 for thread c), and how deep. A depth goes up to the number of events, past a u8.
-pub struct Locks {
-    pub holder: [u8; Event::OBJECTS],
-    pub depth: [u16; Event::OBJECTS],
-}
-
-impl Locks {
-    // Nobody holds any.
-    pub fn empty() -> Locks
-        ensures { λ r. ⌜ r .holder ≡ noLocks ⌝ }
-        ensures { λ r. ⌜ r .depth ≡ noLocks ⌝ }
-    {
-        Locks {
-            holder: [0u8; Event::OBJECTS],
-            depth: [0u16; Event::OBJECTS],
-        }
-    }
-}
+ghost use Rattle.judging.specs.Walk.{Ready, effectOf};
 
 // What an event does: nothing to a lock, or its lock now has this holder at this depth, or it is refused.
 pub enum Effect {
@@ -107,7 +89,7 @@ fn effect_at<'a>(
 }
 
 // Refusals 5 to 9, event by event, of a file that has been read.
-fn judge_events(file: &[u8], t: Trace) -> File
+fn judge_events(file: &[u8], t: Recording) -> File
     requires { ⌜ Placed (now file) t ⌝ }
     ensures { λ r. ⌜ r ≡ fileOf (now (file .entry)) (fileRefusal eventBytes (now (file .entry))) ⌝ }
 {

@@ -1,3 +1,3 @@
 pub mod LimitLaws
--- An object as an index
-pub mod IndexLaws
+-- The refusals have the numbers of the paper
+pub mod PaperLaws

@@ -1,9 +1,10 @@
 -- The ways through a test of a range, and the event numbers of the refusals.
 use Prim.Native.Nat.{ℕ, _≤_, _<_}
 use mathlib.Core.Path.{_≡_, refl, sym, _∙_, ap}
-use mathlib.Core.Bool.{true, false, _&&_}
+use mathlib.Core.Logic.{_↔_}
+use mathlib.Core.Bool.{true, false, not, _&&_}
 use lib.Dec.{leb}
-use borrow.Author.Tests.{leb-true, leb-false, lt-leb, le-leb}
+use borrow.Author.Tests.{leb-true, leb-false, lt-leb, le-leb, not-true}
 use Rattle.limits.specs.Limits.{areaBytes, isAreaSize}
 use Rattle.limits.specs.Refusals.{eventOf}
 use Rattle.limits.specs.declared.Refusal.{Refusal}
@@ -26,14 +27,8 @@ module _ (n : ℕ) where
   pub area-true : isAreaSize n ≡ true → areaBytes ≤ n
   area-true e = leb-true areaBytes n (area-test ∙ e)
 
-  pub area-false : isAreaSize n ≡ false → n < areaBytes
-  area-false e = leb-false areaBytes n (area-test ∙ e)
-
-  pub true-area : areaBytes ≤ n → isAreaSize n ≡ true
-  true-area h = sym area-test ∙ le-leb areaBytes n h
-
-  pub false-area : n < areaBytes → isAreaSize n ≡ false
-  false-area h = sym area-test ∙ lt-leb areaBytes n h
+  pub area-short : (not (isAreaSize n) ≡ true) ↔ (n < areaBytes)
+  area-short = ((λ e. leb-false areaBytes n (area-test ∙ not-true (isAreaSize n) e)), (λ h. rw (sym area-test ∙ lt-leb areaBytes n h)))
 
 -- the event that a refusal speaks of is that of its case
 pub same-event : {r : Refusal} (q : Refusal) (k : ℕ) → r ≡ q → eventOf q ≡ At k → At k ≡ eventOf r

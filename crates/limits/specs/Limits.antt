@@ -1,7 +1,10 @@
 -- The numbers of the format. The limits of events, threads and objects are the model's.
-use Prim.Native.Nat.{ℕ}
+use Prim.Native.Nat.{ℕ, _+_}
 use mathlib.Core.Bool.{Bool, _&&_}
+use mathlib.Core.List.{List}
+use lib.ListN.{replicate}
 use lib.Dec.{leb}
+use Rattle.model.specs.Good.{maxObject}
 
 -- an event's bytes: the size of the one edition that there is. The format's definitions are over the size
 abbrev pub eventBytes : ℕ
@@ -33,3 +36,7 @@ markFirst = 0x50
 
 abbrev pub markSecond : ℕ
 markSecond = 0x4C
+
+-- nobody holds any lock: the holders, and the depths
+unfoldable pub noLocks : List ℕ
+noLocks = replicate (maxObject + 1) 0

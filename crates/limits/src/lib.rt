@@ -1,9 +1,8 @@
 // What is limited, each kind of thing with its limits, and the refusals.
 ghost use mathlib.Core.Path.{_≡_};
 ghost use lib.Dec.{leb};
-ghost use Rattle.model.specs.Good.{maxEvents, maxThread, maxObject};
-ghost use Rattle.model.specs.Refusals.{isKnownKind};
-ghost use Rattle.limits.specs.Limits.{isFileSize, isAreaSize};
+ghost use Rattle.model.specs.Good.{maxEvents, maxThread, maxObject, isKnownKind};
+ghost use Rattle.limits.specs.Limits.{isFileSize, isAreaSize, noLocks};
 ghost use Rattle.limits.specs.Refusals.{numberOf, eventOf};
 
 // A thread, by its number.
@@ -14,6 +13,9 @@ pub struct Thread {
 impl Thread {
     // The highest number.
     pub const MAX: u8 = 15;
+
+    // The places of a list by thread.
+    pub const COUNT: usize = Thread::MAX as usize + 1;
 
     pub fn in_limit(self) -> bool
         ensures { λ r. ⌜ r ≡ leb (self .number) maxThread ⌝ }
@@ -64,17 +66,35 @@ impl Event {
     }
 }
 
-// Where the events of a recording stand in its file, and how many they are.
-pub struct Trace {
-    pub start: usize,
-    pub events: usize,
+// The locks: who holds each (0 for nobody, c + 1 for thread c), and how deep. A depth goes up to the number of events, past a u8.
+pub struct Locks {
+    pub holder: [u8; Event::OBJECTS],
+    pub depth: [u16; Event::OBJECTS],
 }
 
-impl Trace {
+impl Locks {
+    // Nobody holds any.
+    pub fn empty() -> Locks
+        ensures { λ r. ⌜ r .holder ≡ noLocks ⌝ }
+        ensures { λ r. ⌜ r .depth ≡ noLocks ⌝ }
+    {
+        Locks {
+            holder: [0u8; Event::OBJECTS],
+            depth: [0u16; Event::OBJECTS],
+        }
+    }
+}
+
+// A recording, by where its events begin in its file.
+pub struct Recording {
+    pub start: usize,
+}
+
+impl Recording {
     pub const MAX_EVENTS: usize = 512;
 
     // The places of a table by event number: one for each event, and one for 0.
-    pub const PLACES: usize = Trace::MAX_EVENTS + 1;
+    pub const PLACES: usize = Recording::MAX_EVENTS + 1;
 
     // The most bytes of a file.
     pub const MAX_BYTES: usize = 4096;
@@ -94,24 +114,24 @@ impl Trace {
     pub fn bytes_in_limit(n: usize) -> bool
         ensures { λ r. ⌜ r ≡ isFileSize n ⌝ }
     {
-        if n < Trace::TRAILER_BYTES {
+        if n < Recording::TRAILER_BYTES {
             return false;
         }
-        n <= Trace::MAX_BYTES
+        n <= Recording::MAX_BYTES
     }
 
     // May a recording have so many events?
     pub fn events_in_limit(n: usize) -> bool
         ensures { λ r. ⌜ r ≡ leb n maxEvents ⌝ }
     {
-        n <= Trace::MAX_EVENTS
+        n <= Recording::MAX_EVENTS
     }
 
     // Is a work area of so many bytes long enough?
     pub fn area_suffices(n: usize) -> bool
         ensures { λ r. ⌜ r ≡ isAreaSize n ⌝ }
     {
-        Trace::AREA_BYTES <= n
+        Recording::AREA_BYTES <= n
     }
 }
 

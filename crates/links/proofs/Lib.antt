@@ -1,8 +1,10 @@
-pub mod NumberLaws
-pub mod TableLaws
-pub mod PassLaws
-pub mod DepthLaws
-pub mod ReleaseLaws
-pub mod LinkFacts
--- What the pass knows after each event, in words
+-- One word of a table, one column, and all
+pub mod FillLaws
+-- What the lists of the passes know
+pub mod KnowsLaws
+-- What the pass for observed writes knows after each event
 pub mod KnowsExact
+-- The passes, forwards and backwards
+pub mod PassLaws
+-- The ways through the steps
+pub mod StepLaws

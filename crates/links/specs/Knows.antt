@@ -1,12 +1,39 @@
--- What the pass that finds observed writes knows on its way.
+-- What the list of each pass knows on its way.
 use Prim.Native.Nat.{ℕ}
+use mathlib.Core.Bool.{Bool, cond, _&&_}
 use mathlib.Core.List.{List}
-use Rattle.model.specs.Trace.{Trace}
-use Rattle.model.specs.Lists.{before}
+use lib.ListN.{set}
+use lib.Dec.{eqb, ltb}
+use Rattle.model.specs.Trace.{Trace, write, threadOf, kindOf, objectOf}
+use Rattle.model.specs.Lists.{before, numbers, nearest, is}
 use Rattle.model.specs.Observed.{lastWrite}
-use Rattle.model.specs.Good.{maxObject}
-use Rattle.links.specs.Links.{Table}
+use Rattle.model.specs.Good.{maxThread, maxObject, depth}
+use Rattle.model.specs.Sections.{isLast}
+use Rattle.table.specs.Entries.{Entries}
 
--- before event k, that is after the one before it, the table has every cell's last write so far; 0 where there is none
+-- before event k the list has every thread's last event so far; 0 where there is none
+abbrev pub LastEvents : Trace → ℕ → List ℕ → Type 0
+LastEvents t k list = Entries (λ c. nearest (λ j. is c (threadOf t j)) (before k)) maxThread list
+
+-- before event k, that is after the one before it, the list has every cell's last write so far; 0 where there is none
 abbrev pub LastWrites : Trace → ℕ → List ℕ → Type 0
-LastWrites t k table = Table (λ x. lastWrite t x (before k)) maxObject table
+LastWrites t k list = Entries (λ x. lastWrite t x (before k)) maxObject list
+
+-- what event k makes of that list: a write is its cell's last
+unfoldable pub withWrite : Trace → ℕ → List ℕ → List ℕ
+withWrite t k list = cond (eqb (kindOf t k) write) (set list (objectOf t k) k) list
+
+-- before event k the list has how deep each lock is held
+abbrev pub Depths : Trace → ℕ → List ℕ → Type 0
+Depths t k list = Entries (λ x. depth t x (before k)) maxObject list
+
+-- event j is a last release of lock x
+abbrev pub lastOn : Trace → ℕ → ℕ → Bool
+lastOn t x j = isLast t j && eqb (objectOf t j) x
+
+-- backwards: the list has every lock's first last release after event k; 0 where there is none
+unfoldable pub nextEnd : Trace → ℕ → ℕ → ℕ
+nextEnd t k x = nearest (λ j. ltb k j && lastOn t x j) (numbers t)
+
+abbrev pub NextEnds : Trace → ℕ → List ℕ → Type 0
+NextEnds t k list = Entries (nextEnd t k) maxObject list

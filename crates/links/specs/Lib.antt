@@ -1,4 +1,3 @@
--- The links of an event.
-pub mod Links
--- What the pass that finds observed writes knows on its way
+-- How the table is filled, and what each pass knows on its way.
+pub mod Filling
 pub mod Knows

@@ -7,7 +7,7 @@ use mathlib.Core.List.{List}
 use lib.ListN.{length, getD}
 use lib.Seq.{sets}
 use Rattle.model.specs.Trace.{Trace}
-use Rattle.model.specs.Grid.{stepFrom, after, orElse, path}
+use Rattle.decision.specs.Grid.{stepFrom, after, orElse, path}
 use Rattle.merge.specs.Places.{isSome, Found}
 use Rattle.merge.proofs.PlaceLaws.{no-path}
 

@@ -14,13 +14,14 @@ use lib.ListN.{length, getD, set}
 use lib.Seq.{sets, set-comm}
 use lib.Arith.{digits-div, digits-mod}
 use borrow.Author.Tests.{le-ltb, not-true, not-false}
-use Rattle.bits.specs.Marks.{isMarked, marking}
+use Rattle.bits.specs.Marks.{isSet, marking}
 use Rattle.bits.proofs.MarkLaws.{marking-other}
 use Rattle.model.specs.Trace.{Trace}
 use Rattle.model.specs.Good.{maxEvents}
-use Rattle.model.specs.Grid.{stepAt, after, orElse, path}
+use Rattle.decision.specs.Grid.{stepAt, after, orElse, path}
+use Rattle.table.specs.Table.{trace}
 use Rattle.steps.specs.Steps.{Steps}
-use Rattle.merge.specs.Places.{pathAt, viaEither, viaOthers, viaMoved, isSome, written, state, Sound, Ready, Answer}
+use Rattle.merge.specs.Places.{pathAt, viaEither, viaOthers, viaMoved, isSome, written, state, Sound, Standing, Answer}
 
 -- ---- the path from a place
 
@@ -113,7 +114,7 @@ module _ {t : Trace} {m : ℕ} {p q area₁ out out₁ : List ℕ} {at : ℕ} wh
 
 -- ---- the ways through
 
-module _ {t : Trace} {obs rel p q : List ℕ} {m i j : ℕ} {area out : List ℕ} (ready : Ready t obs rel p q m i j area out) where
+module _ {table p q : List ℕ} {m i j : ℕ} {area out : List ℕ} (ready : Standing table p q m i j area out) where
   in-range : state q i j < 8 * length area
   in-range =
       let c : state q i j ≤ state q (length p) (length q) = state-in (length q) i (length p) j (ready .p-in) (ready .q-in) in
@@ -123,95 +124,95 @@ module _ {t : Trace} {obs rel p q : List ℕ} {m i j : ℕ} {area out : List ℕ
   pub state-low : (k : ℕ) → k ≡ state q i j → (area₁ : List ℕ) → length area₁ ≡ length area → k < 8 * length area₁
   state-low k e area₁ l = let h : state q i j < 8 * length area = in-range in omega arith
 
-  nothing : {at : ℕ} {f : Option (List ℕ)} → f ≡ none → Answer t m p q at f area out out false
+  nothing : {at : ℕ} {f : Option (List ℕ)} → f ≡ none → Answer (trace table) m p q at f area out out false
   nothing e = same-answer e (record { says = refl; wrote = refl; sound = ready .sound })
 
   -- explore
-  pub at-end : i + j ≡ length p + length q → Answer t m p q (i + j) (pathAt t m p q i j) area out out true
-  at-end e = same-answer (path-end t m p q i j e) (record { says = refl; wrote = refl; sound = ready .sound })
+  pub at-end : i + j ≡ length p + length q → Answer (trace table) m p q (i + j) (pathAt (trace table) m p q i j) area out out true
+  at-end e = same-answer (path-end (trace table) m p q i j e) (record { says = refl; wrote = refl; sound = ready .sound })
 
-  pub dead : (b : Bool) (k : ℕ) → k ≡ state q i j → b ≡ isMarked area k → b ≡ true → Answer t m p q (i + j) (pathAt t m p q i j) area out out false
+  pub dead : (b : Bool) (k : ℕ) → k ≡ state q i j → b ≡ isSet area k → b ≡ true → Answer (trace table) m p q (i + j) (pathAt (trace table) m p q i j) area out out false
   unfolding Sound
-  dead b k ek e w = nothing (ready .sound i j (ready .p-in) (ready .q-in) (sym (e ∙ ap (isMarked area) ek) ∙ w))
+  dead b k ek e w = nothing (ready .sound i j (ready .p-in) (ready .q-in) (sym (e ∙ ap (isSet area) ek) ∙ w))
 
-  pub still-ready : {area₁ out₁ : List ℕ} → Sound t m p q area₁ → length area₁ ≡ length area → length out₁ ≡ length out → Ready t obs rel p q m i j area₁ out₁
+  pub still-ready : {area₁ out₁ : List ℕ} → Sound (trace table) m p q area₁ → length area₁ ≡ length area → length out₁ ≡ length out → Standing table p q m i j area₁ out₁
   still-ready s la lo =
       let g = ready .given in
       record {
-        given = record { table = g .table; released = g .released; p-valid = g .p-valid; q-valid = g .q-valid; p-few = g .p-few; q-few = g .q-few; states = omega arith; room = omega arith };
+        given = record { links = g .links; p-valid = g .p-valid; q-valid = g .q-valid; p-few = g .p-few; q-few = g .q-few; states = omega arith; room = omega arith };
         p-in = ready .p-in;
         q-in = ready .q-in;
         sound = s;
       }
 
-  module _ (more : i + j ≡ length p + length q → ⊥) {area₁ out₁ : List ℕ} (r : Bool) (a : Answer t m p q (i + j) (viaEither t m p q i j) area₁ out out₁ r) where
-    path-step : pathAt t m p q i j ≡ viaEither t m p q i j
-    path-step = let h = ready .p-in in let k = ready .q-in in path-next t m p q i j (length p + length q - (i + j) - 1) (omega arith)
+  module _ (more : i + j ≡ length p + length q → ⊥) {area₁ out₁ : List ℕ} (r : Bool) (a : Answer (trace table) m p q (i + j) (viaEither (trace table) m p q i j) area₁ out out₁ r) where
+    path-step : pathAt (trace table) m p q i j ≡ viaEither (trace table) m p q i j
+    path-step = let h = ready .p-in in let k = ready .q-in in path-next (trace table) m p q i j (length p + length q - (i + j) - 1) (omega arith)
 
-    pub path-found : r ≡ true → Answer t m p q (i + j) (pathAt t m p q i j) area₁ out out₁ true
+    pub path-found : r ≡ true → Answer (trace table) m p q (i + j) (pathAt (trace table) m p q i j) area₁ out out₁ true
     path-found w = same-answer path-step (rw w at a)
 
     pub path-none : r ≡ false → length area₁ ≡ length area → (k : ℕ) → k ≡ state q i j → (area₂ : List ℕ) → area₂ ≡ marking area₁ k
-        → Answer t m p q (i + j) (pathAt t m p q i j) area₂ out out₁ false
+        → Answer (trace table) m p q (i + j) (pathAt (trace table) m p q i j) area₂ out out₁ false
     path-none w l k ek area₂ e =
-        let b : Answer t m p q (i + j) (viaEither t m p q i j) area₁ out out₁ false = rw w at a in
-        let n : pathAt t m p q i j ≡ none = path-step ∙ no-path (viaEither t m p q i j) (b .says) in
+        let b : Answer (trace table) m p q (i + j) (viaEither (trace table) m p q i j) area₁ out out₁ false = rw w at a in
+        let n : pathAt (trace table) m p q i j ≡ none = path-step ∙ no-path (viaEither (trace table) m p q i j) (b .says) in
         let h : state q i j < 8 * length area = in-range in
-        let s : Sound t m p q (marking area₁ (state q i j)) = sound-mark t m p q area₁ i j (ready .q-in) (omega arith) (b .sound) n in
+        let s : Sound (trace table) m p q (marking area₁ (state q i j)) = sound-mark (trace table) m p q area₁ i j (ready .q-in) (omega arith) (b .sound) n in
         same-answer n (record { says = refl; wrote = kept b; sound = rw (e, ek) s })
 
   -- try_both
-  module _ {area₁ out₁ : List ℕ} (r : Bool) (a : Answer t m p q (i + j) (viaOthers t m p q i j) area₁ out out₁ r) where
-    pub first-found : r ≡ true → Answer t m p q (i + j) (viaEither t m p q i j) area₁ out out₁ true
+  module _ {area₁ out₁ : List ℕ} (r : Bool) (a : Answer (trace table) m p q (i + j) (viaOthers (trace table) m p q i j) area₁ out out₁ r) where
+    pub first-found : r ≡ true → Answer (trace table) m p q (i + j) (viaEither (trace table) m p q i j) area₁ out out₁ true
     unfolding viaEither
     first-found w =
-        let b : Answer t m p q (i + j) (viaOthers t m p q i j) area₁ out out₁ true = rw w at a in
-        same-answer (or-first (viaOthers t m p q i j) (viaMoved t m p q i j) (b .says)) b
+        let b : Answer (trace table) m p q (i + j) (viaOthers (trace table) m p q i j) area₁ out out₁ true = rw w at a in
+        same-answer (or-first (viaOthers (trace table) m p q i j) (viaMoved (trace table) m p q i j) (b .says)) b
 
-    pub second-tried : r ≡ false → {area₂ out₂ : List ℕ} {r₂ : Bool} → Answer t m p q (i + j) (viaMoved t m p q i j) area₂ out₁ out₂ r₂
-        → Answer t m p q (i + j) (viaEither t m p q i j) area₂ out out₂ r₂
+    pub second-tried : r ≡ false → {area₂ out₂ : List ℕ} {r₂ : Bool} → Answer (trace table) m p q (i + j) (viaMoved (trace table) m p q i j) area₂ out₁ out₂ r₂
+        → Answer (trace table) m p q (i + j) (viaEither (trace table) m p q i j) area₂ out out₂ r₂
     unfolding viaEither
     second-tried w b =
-        let c : Answer t m p q (i + j) (viaOthers t m p q i j) area₁ out out₁ false = rw w at a in
-        let n : viaOthers t m p q i j ≡ none = no-path (viaOthers t m p q i j) (c .says) in
-        same-answer (ap (λ (f : Option (List ℕ)). orElse f (viaMoved t m p q i j)) n) (rw (kept c) at b)
+        let c : Answer (trace table) m p q (i + j) (viaOthers (trace table) m p q i j) area₁ out out₁ false = rw w at a in
+        let n : viaOthers (trace table) m p q i j ≡ none = no-path (viaOthers (trace table) m p q i j) (c .says) in
+        same-answer (ap (λ (f : Option (List ℕ)). orElse f (viaMoved (trace table) m p q i j)) n) (rw (kept c) at b)
 
   -- try_others
-  pub others-over : length q ≤ j → Answer t m p q (i + j) (viaOthers t m p q i j) area out out false
-  others-over h = nothing (others-at t m p q i j false (step-over t m false q p j i h))
+  pub others-over : length q ≤ j → Answer (trace table) m p q (i + j) (viaOthers (trace table) m p q i j) area out out false
+  others-over h = nothing (others-at (trace table) m p q i j false (step-over (trace table) m false q p j i h))
 
-  pub others-stop : (b : Bool) → b ≡ stepAt t m false q p j i → not b ≡ true → Answer t m p q (i + j) (viaOthers t m p q i j) area out out false
-  others-stop b e w = nothing (others-at t m p q i j false (sym e ∙ not-true b w))
+  pub others-stop : (b : Bool) → b ≡ stepAt (trace table) m false q p j i → not b ≡ true → Answer (trace table) m p q (i + j) (viaOthers (trace table) m p q i j) area out out false
+  others-stop b e w = nothing (others-at (trace table) m p q i j false (sym e ∙ not-true b w))
 
-  pub others-steps : j < length q → Steps t obs q p j i
-  others-steps h = let g = ready .given in record { table = g .table; own-valid = g .q-valid; other-valid = g .p-valid; own-in = h; other-in = ready .p-in }
+  pub others-steps : j < length q → Steps table q p j i
+  others-steps h = let g = ready .given in record { links = g .links; own-valid = g .q-valid; other-valid = g .p-valid; own-in = h; other-in = ready .p-in }
 
-  pub others-ready : j < length q → Ready t obs rel p q m i (j + 1) area out
+  pub others-ready : j < length q → Standing table p q m i (j + 1) area out
   others-ready h = record { given = ready .given; p-in = ready .p-in; q-in = omega arith; sound = ready .sound }
 
-  module _ (b : Bool) (eb : b ≡ stepAt t m false q p j i) (tb : not b ≡ false) {area₁ out₁ : List ℕ} (r : Bool) (a : Answer t m p q (i + (j + 1)) (pathAt t m p q i (j + 1)) area₁ out out₁ r) where
-    pub others-found : r ≡ true → {out₂ : List ℕ} → out₂ ≡ set out₁ (i + j) (getD q j 0) → Answer t m p q (i + j) (viaOthers t m p q i j) area₁ out out₂ true
-    others-found w e = rw e (same-answer (others-at t m p q i j true (sym eb ∙ not-false b tb)) (step-found (getD q j 0) (i + (j + 1)) (omega arith) (rw w at a)))
+  module _ (b : Bool) (eb : b ≡ stepAt (trace table) m false q p j i) (tb : not b ≡ false) {area₁ out₁ : List ℕ} (r : Bool) (a : Answer (trace table) m p q (i + (j + 1)) (pathAt (trace table) m p q i (j + 1)) area₁ out out₁ r) where
+    pub others-found : r ≡ true → {out₂ : List ℕ} → out₂ ≡ set out₁ (i + j) (getD q j 0) → Answer (trace table) m p q (i + j) (viaOthers (trace table) m p q i j) area₁ out out₂ true
+    others-found w e = rw e (same-answer (others-at (trace table) m p q i j true (sym eb ∙ not-false b tb)) (step-found (getD q j 0) (i + (j + 1)) (omega arith) (rw w at a)))
 
-    pub others-none : r ≡ false → Answer t m p q (i + j) (viaOthers t m p q i j) area₁ out out₁ false
-    others-none w = same-answer (others-at t m p q i j true (sym eb ∙ not-false b tb)) (step-none (getD q j 0) (i + (j + 1)) (rw w at a))
+    pub others-none : r ≡ false → Answer (trace table) m p q (i + j) (viaOthers (trace table) m p q i j) area₁ out out₁ false
+    others-none w = same-answer (others-at (trace table) m p q i j true (sym eb ∙ not-false b tb)) (step-none (getD q j 0) (i + (j + 1)) (rw w at a))
 
   -- try_moved
-  pub moved-over : length p ≤ i → Answer t m p q (i + j) (viaMoved t m p q i j) area out out false
-  moved-over h = nothing (moved-at t m p q i j false (step-over t m true p q i j h))
+  pub moved-over : length p ≤ i → Answer (trace table) m p q (i + j) (viaMoved (trace table) m p q i j) area out out false
+  moved-over h = nothing (moved-at (trace table) m p q i j false (step-over (trace table) m true p q i j h))
 
-  pub moved-stop : (b : Bool) → b ≡ stepAt t m true p q i j → not b ≡ true → Answer t m p q (i + j) (viaMoved t m p q i j) area out out false
-  moved-stop b e w = nothing (moved-at t m p q i j false (sym e ∙ not-true b w))
+  pub moved-stop : (b : Bool) → b ≡ stepAt (trace table) m true p q i j → not b ≡ true → Answer (trace table) m p q (i + j) (viaMoved (trace table) m p q i j) area out out false
+  moved-stop b e w = nothing (moved-at (trace table) m p q i j false (sym e ∙ not-true b w))
 
-  pub moved-steps : i < length p → Steps t obs p q i j
-  moved-steps h = let g = ready .given in record { table = g .table; own-valid = g .p-valid; other-valid = g .q-valid; own-in = h; other-in = ready .q-in }
+  pub moved-steps : i < length p → Steps table p q i j
+  moved-steps h = let g = ready .given in record { links = g .links; own-valid = g .p-valid; other-valid = g .q-valid; own-in = h; other-in = ready .q-in }
 
-  pub moved-ready : i < length p → Ready t obs rel p q m (i + 1) j area out
+  pub moved-ready : i < length p → Standing table p q m (i + 1) j area out
   moved-ready h = record { given = ready .given; p-in = omega arith; q-in = ready .q-in; sound = ready .sound }
 
-  module _ (b : Bool) (eb : b ≡ stepAt t m true p q i j) (tb : not b ≡ false) {area₁ out₁ : List ℕ} (r : Bool) (a : Answer t m p q (i + 1 + j) (pathAt t m p q (i + 1) j) area₁ out out₁ r) where
-    pub moved-found : r ≡ true → {out₂ : List ℕ} → out₂ ≡ set out₁ (i + j) (getD p i 0) → Answer t m p q (i + j) (viaMoved t m p q i j) area₁ out out₂ true
-    moved-found w e = rw e (same-answer (moved-at t m p q i j true (sym eb ∙ not-false b tb)) (step-found (getD p i 0) (i + 1 + j) (omega arith) (rw w at a)))
+  module _ (b : Bool) (eb : b ≡ stepAt (trace table) m true p q i j) (tb : not b ≡ false) {area₁ out₁ : List ℕ} (r : Bool) (a : Answer (trace table) m p q (i + 1 + j) (pathAt (trace table) m p q (i + 1) j) area₁ out out₁ r) where
+    pub moved-found : r ≡ true → {out₂ : List ℕ} → out₂ ≡ set out₁ (i + j) (getD p i 0) → Answer (trace table) m p q (i + j) (viaMoved (trace table) m p q i j) area₁ out out₂ true
+    moved-found w e = rw e (same-answer (moved-at (trace table) m p q i j true (sym eb ∙ not-false b tb)) (step-found (getD p i 0) (i + 1 + j) (omega arith) (rw w at a)))
 
-    pub moved-none : r ≡ false → Answer t m p q (i + j) (viaMoved t m p q i j) area₁ out out₁ false
-    moved-none w = same-answer (moved-at t m p q i j true (sym eb ∙ not-false b tb)) (step-none (getD p i 0) (i + 1 + j) (rw w at a))
+    pub moved-none : r ≡ false → Answer (trace table) m p q (i + j) (viaMoved (trace table) m p q i j) area₁ out out₁ false
+    moved-none w = same-answer (moved-at (trace table) m p q i j true (sym eb ∙ not-false b tb)) (step-none (getD p i 0) (i + 1 + j) (rw w at a))

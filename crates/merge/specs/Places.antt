@@ -6,11 +6,11 @@ use mathlib.Core.Option.{Option, none, some}
 use mathlib.Core.List.{List}
 use lib.ListN.{length, getD}
 use lib.Seq.{sets}
-use Rattle.bits.specs.Marks.{isMarked}
+use Rattle.bits.specs.Marks.{isSet}
 use Rattle.model.specs.Trace.{Trace}
 use Rattle.model.specs.Good.{maxEvents}
-use Rattle.model.specs.Grid.{stepAt, after, orElse, path}
-use Rattle.links.specs.Links.{Observed, Released}
+use Rattle.decision.specs.Grid.{stepAt, after, orElse, path}
+use Rattle.table.specs.Table.{trace, Linked}
 use Rattle.steps.specs.Steps.{AllValid}
 
 -- the path from a place to the end
@@ -45,25 +45,24 @@ state q i j = i * (length q + 1) + j
 
 -- from a marked place there is no path
 unfoldable pub Sound : Trace → ℕ → List ℕ → List ℕ → List ℕ → Type 0
-Sound t m p q area = (i j : ℕ) → i ≤ length p → j ≤ length q → isMarked area (state q i j) ≡ true → pathAt t m p q i j ≡ none
+Sound t m p q area = (i j : ℕ) → i ≤ length p → j ≤ length q → isSet area (state q i j) ≡ true → pathAt t m p q i j ≡ none
 
--- the observed writes, the ends of sections and the two lists, with a bit for each place and room for the path
-pub record Given (t : Trace) (obs rel p q area out : List ℕ) : Type 0 where
-  pub table : Observed t obs
-  pub released : Released t rel
-  pub p-valid : AllValid t p
-  pub q-valid : AllValid t q
+-- the trace with its links and the two lists, with a bit for each place and room for the path
+pub record Mergeable (table p q area out : List ℕ) : Type 0 where
+  pub links : Linked table
+  pub p-valid : AllValid (trace table) p
+  pub q-valid : AllValid (trace table) q
   pub p-few : length p ≤ maxEvents
   pub q-few : length q ≤ maxEvents
   pub states : state q (length p) (length q) < 8 * length area
   pub room : length p + length q ≤ length out
 
 -- a place of the grid, and an area whose marks hold
-pub record Ready (t : Trace) (obs rel p q : List ℕ) (m i j : ℕ) (area out : List ℕ) : Type 0 where
-  pub given : Given t obs rel p q area out
+pub record Standing (table p q : List ℕ) (m i j : ℕ) (area out : List ℕ) : Type 0 where
+  pub given : Mergeable table p q area out
   pub p-in : i ≤ length p
   pub q-in : j ≤ length q
-  pub sound : Sound t m p q area
+  pub sound : Sound (trace table) m p q area
 
 -- the answer says whether there is a path, and the path is in the list from a place on
 pub record Answer (t : Trace) (m : ℕ) (p q : List ℕ) (at : ℕ) (f : Option (List ℕ)) (area′ out out′ : List ℕ) (r : Bool) : Type 0 where

@@ -6,9 +6,9 @@ ghost use Prim.Native.Nat.{_+_, _*_, _≤_};
 ghost use lib.ListN.{length};
 ghost use Rattle.bits.specs.Marks.{Clear};
 ghost use Rattle.model.specs.Good.{maxEvents};
-ghost use Rattle.model.specs.Grid.{path};
-ghost use Rattle.format.specs.Bytes.{trace};
-ghost use Rattle.merge.specs.Places.{pathAt, viaEither, viaOthers, viaMoved, Given, Ready, Answer, Found};
+ghost use Rattle.decision.specs.Grid.{path};
+ghost use Rattle.table.specs.Table.{trace};
+ghost use Rattle.merge.specs.Places.{pathAt, viaEither, viaOthers, viaMoved, Mergeable, Standing, Answer, Found};
 
 // The number of the place (i, j), where n is the length of q.
 fn state_at(n: usize, i: usize, j: usize) -> usize
@@ -20,9 +20,7 @@ fn state_at(n: usize, i: usize, j: usize) -> usize
 
 // Searches from the place (i, j).
 fn explore(
-    ev: &[u8],
-    observed: &[u16],
-    released: &[u16],
+    table: &[u16],
     p: &[u16],
     q: &[u16],
     moved: u8,
@@ -31,8 +29,8 @@ fn explore(
     out: &mut [u16],
     area: &mut [u8],
 ) -> bool
-    requires { ⌜ Ready (trace (now ev)) (now observed) (now released) (now p) (now q) moved i j (now area) (now out) ⌝ }
-    ensures { λ r. ⌜ Answer (trace (now (ev .entry))) moved (now (p .entry)) (now (q .entry)) (i + j) (pathAt (trace (now (ev .entry))) moved (now (p .entry)) (now (q .entry)) i j) (now (area .exit)) (now (out .entry)) (now (out .exit)) r ⌝ }
+    requires { ⌜ Standing (now table) (now p) (now q) moved i j (now area) (now out) ⌝ }
+    ensures { λ r. ⌜ Answer (trace (now (table .entry))) moved (now (p .entry)) (now (q .entry)) (i + j) (pathAt (trace (now (table .entry))) moved (now (p .entry)) (now (q .entry)) i j) (now (area .exit)) (now (out .entry)) (now (out .exit)) r ⌝ }
 {
     if i + j == p.len() + q.len() {
         return true;
@@ -41,7 +39,7 @@ fn explore(
     if bits::marked(area, state) {
         return false;
     }
-    if try_both(ev, observed, released, p, q, moved, i, j, out, area) {
+    if try_both(table, p, q, moved, i, j, out, area) {
         return true;
     }
     bits::mark(area, state);
@@ -50,9 +48,7 @@ fn explore(
 
 // The others' event first, then the moved thread's.
 fn try_both(
-    ev: &[u8],
-    observed: &[u16],
-    released: &[u16],
+    table: &[u16],
     p: &[u16],
     q: &[u16],
     moved: u8,
@@ -61,20 +57,18 @@ fn try_both(
     out: &mut [u16],
     area: &mut [u8],
 ) -> bool
-    requires { ⌜ Ready (trace (now ev)) (now observed) (now released) (now p) (now q) moved i j (now area) (now out) ⌝ }
-    ensures { λ r. ⌜ Answer (trace (now (ev .entry))) moved (now (p .entry)) (now (q .entry)) (i + j) (viaEither (trace (now (ev .entry))) moved (now (p .entry)) (now (q .entry)) i j) (now (area .exit)) (now (out .entry)) (now (out .exit)) r ⌝ }
+    requires { ⌜ Standing (now table) (now p) (now q) moved i j (now area) (now out) ⌝ }
+    ensures { λ r. ⌜ Answer (trace (now (table .entry))) moved (now (p .entry)) (now (q .entry)) (i + j) (viaEither (trace (now (table .entry))) moved (now (p .entry)) (now (q .entry)) i j) (now (area .exit)) (now (out .entry)) (now (out .exit)) r ⌝ }
 {
-    if try_others(ev, observed, released, p, q, moved, i, j, out, area) {
+    if try_others(table, p, q, moved, i, j, out, area) {
         return true;
     }
-    try_moved(ev, observed, released, p, q, moved, i, j, out, area)
+    try_moved(table, p, q, moved, i, j, out, area)
 }
 
 // By way of the others' event. It is written to the list on the way back.
 fn try_others(
-    ev: &[u8],
-    observed: &[u16],
-    released: &[u16],
+    table: &[u16],
     p: &[u16],
     q: &[u16],
     moved: u8,
@@ -83,17 +77,17 @@ fn try_others(
     out: &mut [u16],
     area: &mut [u8],
 ) -> bool
-    requires { ⌜ Ready (trace (now ev)) (now observed) (now released) (now p) (now q) moved i j (now area) (now out) ⌝ }
-    ensures { λ r. ⌜ Answer (trace (now (ev .entry))) moved (now (p .entry)) (now (q .entry)) (i + j) (viaOthers (trace (now (ev .entry))) moved (now (p .entry)) (now (q .entry)) i j) (now (area .exit)) (now (out .entry)) (now (out .exit)) r ⌝ }
+    requires { ⌜ Standing (now table) (now p) (now q) moved i j (now area) (now out) ⌝ }
+    ensures { λ r. ⌜ Answer (trace (now (table .entry))) moved (now (p .entry)) (now (q .entry)) (i + j) (viaOthers (trace (now (table .entry))) moved (now (p .entry)) (now (q .entry)) i j) (now (area .exit)) (now (out .entry)) (now (out .exit)) r ⌝ }
 {
     if q.len() <= j {
         return false;
     }
-    if !steps::may_step(ev, observed, released, q, j, p, i, moved, false) {
+    if !steps::may_step(table, q, j, p, i, moved, false) {
         return false;
     }
-    if explore(ev, observed, released, p, q, moved, i, j + 1, out, area) {
-        placing::place(q, j, out, i + j);
+    if explore(table, p, q, moved, i, j + 1, out, area) {
+        bits::place(q, j, out, i + j);
         return true;
     }
     false
@@ -101,9 +95,7 @@ fn try_others(
 
 // By way of the moved thread's event.
 fn try_moved(
-    ev: &[u8],
-    observed: &[u16],
-    released: &[u16],
+    table: &[u16],
     p: &[u16],
     q: &[u16],
     moved: u8,
@@ -112,37 +104,28 @@ fn try_moved(
     out: &mut [u16],
     area: &mut [u8],
 ) -> bool
-    requires { ⌜ Ready (trace (now ev)) (now observed) (now released) (now p) (now q) moved i j (now area) (now out) ⌝ }
-    ensures { λ r. ⌜ Answer (trace (now (ev .entry))) moved (now (p .entry)) (now (q .entry)) (i + j) (viaMoved (trace (now (ev .entry))) moved (now (p .entry)) (now (q .entry)) i j) (now (area .exit)) (now (out .entry)) (now (out .exit)) r ⌝ }
+    requires { ⌜ Standing (now table) (now p) (now q) moved i j (now area) (now out) ⌝ }
+    ensures { λ r. ⌜ Answer (trace (now (table .entry))) moved (now (p .entry)) (now (q .entry)) (i + j) (viaMoved (trace (now (table .entry))) moved (now (p .entry)) (now (q .entry)) i j) (now (area .exit)) (now (out .entry)) (now (out .exit)) r ⌝ }
 {
     if p.len() <= i {
         return false;
     }
-    if !steps::may_step(ev, observed, released, p, i, q, j, moved, true) {
+    if !steps::may_step(table, p, i, q, j, moved, true) {
         return false;
     }
-    if explore(ev, observed, released, p, q, moved, i + 1, j, out, area) {
-        placing::place(p, i, out, i + j);
+    if explore(table, p, q, moved, i + 1, j, out, area) {
+        bits::place(p, i, out, i + j);
         return true;
     }
     false
 }
 
 // Searches from the start, and takes the marks away again.
-fn find_in(
-    ev: &[u8],
-    observed: &[u16],
-    released: &[u16],
-    p: &[u16],
-    q: &[u16],
-    moved: u8,
-    out: &mut [u16],
-    area: &mut [u8],
-) -> bool
-    requires { ⌜ Given (trace (now ev)) (now observed) (now released) (now p) (now q) (now area) (now out) × Clear (now area) ⌝ }
-    ensures { λ r. ⌜ Found (path (trace (now (ev .entry))) moved (now (p .entry)) (now (q .entry)) (length (now (p .entry)) + length (now (q .entry))) 0 0) (now (area .entry)) (now (area .exit)) (now (out .entry)) (now (out .exit)) r ⌝ }
+fn find_in(table: &[u16], p: &[u16], q: &[u16], moved: u8, out: &mut [u16], area: &mut [u8]) -> bool
+    requires { ⌜ Mergeable (now table) (now p) (now q) (now area) (now out) × Clear (now area) ⌝ }
+    ensures { λ r. ⌜ Found (path (trace (now (table .entry))) moved (now (p .entry)) (now (q .entry)) (length (now (p .entry)) + length (now (q .entry))) 0 0) (now (area .entry)) (now (area .exit)) (now (out .entry)) (now (out .exit)) r ⌝ }
 {
-    let found = explore(ev, observed, released, p, q, moved, 0, 0, out, area);
+    let found = explore(table, p, q, moved, 0, 0, out, area);
     bits::clear(area);
     found
 }
@@ -150,19 +133,17 @@ fn find_in(
 // The path from the start: true, with the path in front of the lent list; or false, with the list as it was.
 // Only the part of the work area that has a bit for each place is lent to the search, and cleared after it.
 pub fn find(
-    ev: &[u8],
-    observed: &[u16],
-    released: &[u16],
+    table: &[u16],
     p: &[u16],
     q: &[u16],
     moved: u8,
     out: &mut [u16],
     area: &mut [u8],
 ) -> bool
-    requires { ⌜ Given (trace (now ev)) (now observed) (now released) (now p) (now q) (now area) (now out) × Clear (now area) ⌝ }
-    ensures { λ r. ⌜ Found (path (trace (now (ev .entry))) moved (now (p .entry)) (now (q .entry)) (length (now (p .entry)) + length (now (q .entry))) 0 0) (now (area .entry)) (now (area .exit)) (now (out .entry)) (now (out .exit)) r ⌝ }
+    requires { ⌜ Mergeable (now table) (now p) (now q) (now area) (now out) × Clear (now area) ⌝ }
+    ensures { λ r. ⌜ Found (path (trace (now (table .entry))) moved (now (p .entry)) (now (q .entry)) (length (now (p .entry)) + length (now (q .entry))) 0 0) (now (area .entry)) (now (area .exit)) (now (out .entry)) (now (out .exit)) r ⌝ }
 {
     let last = state_at(q.len(), p.len(), q.len());
     let used = last / 8 + 1;
-    find_in(ev, observed, released, p, q, moved, out, &mut area[..used])
+    find_in(table, p, q, moved, out, &mut area[..used])
 }

@@ -5,10 +5,14 @@ pub mod Histories
 pub mod Locks
 pub mod SectionsExact
 pub mod Agree
+-- refusals and faults, row by row
+pub mod RowsExact
 -- the observed write, in words
 pub mod ObservedExact
 -- The theorems, by their numbers in docs/CLAIMS.md: 1
 pub mod RuleByRule
+pub mod MatchingExact
+pub mod ConeEvents
 -- 8, the number of threads
 pub mod Threads
 -- 2
@@ -17,20 +21,5 @@ pub mod OneShown
 pub mod TwoThreads
 -- 4
 pub mod Stability
--- 5
-pub mod CheckExact
--- 6
-pub mod LeastSet
-pub mod MatchingExact
-pub mod ConeExact
-pub mod GridSteps
-pub mod Merges
-pub mod SearchExact
--- 7
-pub mod ListingExact
--- 8, the refusals
-pub mod RefusalsExact
 -- 4, demand 3 whole
 pub mod StaysTrue
--- 9
-pub mod ExamplesHold

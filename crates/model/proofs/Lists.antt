@@ -1,15 +1,17 @@
 -- Lists of event numbers: those that pass a test, the trace's own, a list read backwards, and lists in order.
 use Prim.Native.Nat.{ℕ, zero, suc, _+_, _≤_, _<_}
 use native.Mathlib.Omega.{arith}
+use native.Mathlib.Nat.{zero-add}
 use mathlib.Core.Path.{_≡_, refl, sym, _∙_, ap}
 use mathlib.Core.Logic.{_≢_, _⊎_, inl, inr, ⊎-elim}
 use mathlib.Core.Bool.{Bool, true, false, false≢true}
 use mathlib.Core.List.{List, [], _∷_, _++_, reverse, reverseAux, reverseAux-eq, nil≢cons, head-eq-of-cons-eq, tail-eq-of-cons-eq, List·Memᴰ·head, List·Memᴰ·tail, List·Memᴰ·not-nil}
-use lib.ListN.{length}
+use lib.ListN.{length, take, drop}
+use lib.Seq.{sets, sets-eq, take-append-seam}
 use lib.Dec.{eqb, leb}
 use borrow.Author.Tests.{eqb-true, eq-eqb, leb-true, leb-false}
 use Rattle.model.specs.Trace.{Trace, Valid, threadOf}
-use Rattle.model.specs.Lists.{_∈_, upTo, before, numbers, put, keep, nearest, anyIn, listed, only, own, is}
+use Rattle.model.specs.Lists.{_∈_, upTo, before, numbers, put, keep, nearest, anyIn, listed, inFront, only, own, is}
 use Rattle.model.specs.Race.{Increasing}
 use Rattle.model.proofs.Tests.{by-cases, in-cons, clash, is-true, true-is}
 
@@ -252,3 +254,13 @@ increasing-unique (x ∷ l) (y ∷ r) i j f g =
     rw e (ap (λ (z : List ℕ). y ∷ z) (increasing-unique l r (i .1) (j .1)
     (λ k m. in-cons (f k (List·Memᴰ·tail m)) (λ q. let p = i .0 k m in absurd (omega arith)) (λ n. n))
     (λ k m. in-cons (g k (List·Memᴰ·tail m)) (λ q. let p = j .0 k m in absurd (omega arith)) (λ n. n))))
+
+-- ---- a list in front of another
+
+pub front-taken : (ρ list : List ℕ) → take (length ρ) (inFront ρ list) ≡ ρ
+unfolding inFront
+front-taken ρ list = take-append-seam ρ (drop (length ρ) list)
+
+pub sets-front : (ρ list : List ℕ) → length ρ ≤ length list → sets list 0 ρ ≡ inFront ρ list
+unfolding inFront
+sets-front ρ list h = sets-eq ρ list 0 (omega arith) ∙ rw (zero-add (length ρ))

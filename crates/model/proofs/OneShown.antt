@@ -1,17 +1,22 @@
 -- The one shown is unique, and what is shown brings both accesses next.
 use Prim.Native.Nat.{ℕ}
 use mathlib.Core.Path.{_≡_, refl, sym}
-use mathlib.Core.Logic.{_⊎_, inl, inr, ⊎-elim}
+use mathlib.Core.Logic.{_≢_, _⊎_, inl, inr, ⊎-elim}
+use mathlib.Core.Bool.{Bool}
 use mathlib.Core.List.{List, [], _∷_, reverse, nil≢cons, head-eq-of-cons-eq, tail-eq-of-cons-eq}
 use Rattle.model.specs.Trace.{Trace, Valid, threadOf}
 use Rattle.model.specs.Lists.{_∈_, only, own, is, but, pair}
 use Rattle.model.specs.Reordering.{BringsAll, BringsBoth}
 use Rattle.model.specs.Cone.{root}
-use Rattle.model.specs.Race.{Candidate, Preferred, Shown, Witness, Conflicting}
+use Rattle.model.specs.Race.{Candidate, Increasing, Preferred, Shown, Witness, Conflicting}
 use Rattle.model.proofs.Tests.{by-cases, is-true, is-false, true-but, false-but}
-use Rattle.model.proofs.Lists.{mem-reverse, reverse-mem}
-use Rattle.model.proofs.Histories.{to-legal, enabled-by}
+use Rattle.model.proofs.Lists.{mem-only, only-mem, mem-reverse, reverse-mem, increasing-unique}
+use Rattle.model.proofs.Histories.{to-legal, own-increasing, enabled-by}
 use Rattle.model.proofs.Threads.{conflicting-apart}
+
+-- where two lists first differ, the one that takes an event outside the moved thread is preferred
+others-first : (t : Trace) (m : ℕ) {x y : ℕ} (ρ τ : List ℕ) → threadOf t x ≢ m → threadOf t y ≡ m → Preferred t m (x ∷ ρ) (y ∷ τ)
+others-first t m ρ τ p q = inr (p, q)
 
 not-both-ways : (t : Trace) (m : ℕ) (ρ τ : List ℕ) → Preferred t m ρ τ → Preferred t m τ ρ → ⊥
 not-both-ways t m [] τ f g = f
@@ -35,7 +40,7 @@ module _ (t : Trace) (m : ℕ) where
   same-head x y ρ τ e c =
       ⊎-elim (λ p. inl (cc)) (λ p. inr (⊎-elim (λ q. inl (inl (e, q))) (λ q. inr (inl (sym e, q))) p)) c
 
-  pub same-sides : (ρ τ : List ℕ) → own t m ρ ≡ own t m τ → only t (but m) ρ ≡ only t (but m) τ → Compared ρ τ
+  same-sides : (ρ τ : List ℕ) → own t m ρ ≡ own t m τ → only t (but m) ρ ≡ only t (but m) τ → Compared ρ τ
   same-sides [] [] p q = inl refl
   same-sides [] (y ∷ τ) p q =
       by-cases (is m (threadOf t y))
@@ -53,14 +58,25 @@ module _ (t : Trace) (m : ℕ) where
       let d : (x ∷ own t m ρ) ≡ (y ∷ own t m τ) = rw (e, f) at p in
       let o : only t (but m) ρ ≡ only t (but m) τ = rw (false-but m (threadOf t x) (is-true m (threadOf t x) e), false-but m (threadOf t y) (is-true m (threadOf t y) f)) at q in
       same-head x y ρ τ (head-eq-of-cons-eq d) (same-sides ρ τ (tail-eq-of-cons-eq d) o))
-      (λ f. inr (inr (inr (is-false m (threadOf t y) f, is-true m (threadOf t x) e)))))
+      (λ f. inr (inr (others-first t m τ ρ (is-false m (threadOf t y) f) (is-true m (threadOf t x) e)))))
       (λ e.
       by-cases (is m (threadOf t y))
-      (λ f. inr (inl (inr (is-false m (threadOf t x) e, is-true m (threadOf t y) f))))
+      (λ f. inr (inl (others-first t m ρ τ (is-false m (threadOf t x) e) (is-true m (threadOf t y) f))))
       (λ f.
       let d : (x ∷ only t (but m) ρ) ≡ (y ∷ only t (but m) τ) =
       rw (true-but m (threadOf t x) (is-false m (threadOf t x) e), true-but m (threadOf t y) (is-false m (threadOf t y) f)) at q in
       same-head x y ρ τ (head-eq-of-cons-eq d) (same-sides ρ τ (rw (e, f) at p) (tail-eq-of-cons-eq d))))
+
+-- two candidates that differ are told apart by the preference: the rule never meets two events outside the moved thread
+pub preference-decides : (t : Trace) (R : List ℕ) (m : ℕ) (ρ τ : List ℕ) → Candidate t R m ρ → Candidate t R m τ → (ρ ≡ τ) ⊎ (Preferred t m ρ τ ⊎ Preferred t m τ ρ)
+preference-decides t R m ρ τ c d =
+    same-sides t m ρ τ (side (is m) (own-increasing t m ρ (c .correct)) (own-increasing t m τ (d .correct))) (side (but m) (c .order) (d .order))
+  where
+    side : (s : ℕ → Bool) → Increasing (only t s ρ) → Increasing (only t s τ) → only t s ρ ≡ only t s τ
+    side s i j =
+        increasing-unique (only t s ρ) (only t s τ) i j
+        (λ k x. let y = mem-only t s k ρ x in only-mem t s (d .members k .1 (c .members k .0 (y .0))) (y .1))
+        (λ k x. let y = mem-only t s k τ x in only-mem t s (c .members k .1 (d .members k .0 (y .0))) (y .1))
 
 -- a candidate brings each root next
 pub candidate-brings : (t : Trace) (R : List ℕ) (m : ℕ) (ρ : List ℕ) → ((r : ℕ) → r ∈ R → Valid t r) → Candidate t R m ρ → BringsAll t ρ R

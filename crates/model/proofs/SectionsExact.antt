@@ -1,21 +1,19 @@
--- A thread's own depth agrees with who holds a lock and how deep; the latest event on a lock tells who holds it.
+-- A thread's own depth agrees with who holds a lock and how deep.
 use Prim.Native.Nat.{ℕ, zero, suc}
 use native.Mathlib.Omega.{arith}
 use native.Mathlib.Nat.{suc-inj}
 use mathlib.Core.Path.{_≡_, refl, sym, _∙_, ap}
 use mathlib.Core.Logic.{_≢_, _⊎_, inl, inr, ⊎-elim, _↔_}
-use mathlib.Core.Bool.{Bool, true, false, cond}
-use mathlib.Core.List.{List, [], _∷_, reverse}
+use mathlib.Core.Bool.{true, false, cond}
+use mathlib.Core.List.{List, _∷_, reverse}
 use lib.Dec.{eqb}
 use borrow.Author.Tests.{eqb-true, eqb-false, eq-eqb, ne-eqb}
 use Rattle.model.specs.Trace.{Trace, Valid, acquire, release, threadOf, kindOf, objectOf, does}
-use Rattle.model.specs.Lists.{before, only, own, is}
+use Rattle.model.specs.Lists.{before, own, is}
 use Rattle.model.specs.Good.{depth, holder, Free, Held, WellFormed}
 use Rattle.model.specs.Reordering.{Next, Correct}
 use Rattle.model.specs.Sections.{ownDepth, isOutermost, isLast, OwnDepths}
-use Rattle.model.specs.Grid.{keeper}
-use Rattle.model.proofs.Tests.{by-cases, both, clash, true-both, does-true, true-does, false-does, is-true, true-is}
-use Rattle.model.proofs.Lists.{own-only}
+use Rattle.model.proofs.Tests.{by-cases, both, clash, true-both, true-does, false-does, is-true, true-is}
 use Rattle.model.proofs.Histories.{Legal, to-legal}
 use Rattle.model.proofs.Locks.{Locked, sharing, nobody, lock-only, locked, locked-before, held-next}
 
@@ -94,36 +92,6 @@ module _ (t : Trace) (h : List ℕ) (l : Locked t h) where
       (λ e. after-release r g ∙ rw e),
       (λ z. by-cases (isLast t k) (λ e. e) (λ e. let y : suc c ≡ 0 = sym (after-release r g ∙ rw e) ∙ z in absurd (omega arith))),
     )
-
--- ---- the latest event on a lock
-
--- each event comes after those before it in its thread
-abbrev pub InTurn : Trace → List ℕ → Type 0
-InTurn t [] = Unit {0}
-InTurn t (k ∷ h) = (own t (threadOf t k) h ≡ own t (threadOf t k) (before k)) × InTurn t h
-
-pub in-turn : (t : Trace) (h : List ℕ) → Legal t h → InTurn t h
-in-turn t [] l = tt
-in-turn t (k ∷ h) l = (l .0 .enabled .next .turn, in-turn t h (l .1))
-
-pub in-turn-only : (t : Trace) (s : ℕ → Bool) (h : List ℕ) → InTurn t h → InTurn t (only t s h)
-in-turn-only t s [] i = tt
-in-turn-only t s (k ∷ h) i =
-    by-cases (s (threadOf t k)) (λ e. rw e (own-only t s (threadOf t k) e h ∙ i .0, in-turn-only t s h (i .1))) (λ e. rw e (in-turn-only t s h (i .1)))
-
-pub keeper-holder : (t : Trace) (x : ℕ) (h : List ℕ) → Locked t h → InTurn t h → keeper t x h ≡ holder t x h
-unfolding Locked isLast
-keeper-holder t x [] l i = refl
-keeper-holder t x (k ∷ h) l i =
-    let ih = keeper-holder t x h (l .2) (i .1) in
-    by-cases (does t acquire x k)
-    (λ p. let a = does-true t acquire x k p .0 in rw (p, ne-eqb (kindOf t k) release (omega arith)))
-    (λ p.
-    by-cases (does t release x k)
-    (λ q.
-    let d = does-true t release x k q in
-    let e = after-release t h (l .2) k (i .0) (d .0) (l .1 (d .0)) in rw (p, q) (sym (rw (d .1, p, q) at e)))
-    (λ q. rw (p, q) ih))
 
 -- ---- in a correct reordering of a well-formed trace, the trace itself among them
 

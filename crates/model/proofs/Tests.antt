@@ -3,7 +3,7 @@ use Prim.Native.Nat.{ℕ, zero, suc}
 use native.Mathlib.Omega.{arith}
 use mathlib.Core.Path.{_≡_, refl, sym, _∙_, ap}
 use mathlib.Core.Logic.{_≢_, _⊎_, inl, inr, ⊎-elim}
-use mathlib.Core.Bool.{Bool, true, false, _&&_, _||_, not, true≢false, false≢true}
+use mathlib.Core.Bool.{Bool, true, false, _&&_, _||_, true≢false, false≢true}
 use mathlib.Core.List.{List, _∷_, List·Memᴰ, List·Memᴰ·cases-cons}
 use lib.ListN.{length, List·getD-eq-default}
 use lib.Dec.{eqb, ltb}
@@ -38,15 +38,6 @@ or-right false e = e
 
 pub true-either : (b c : Bool) → (b ≡ true) ⊎ (c ≡ true) → b || c ≡ true
 true-either b c s = ⊎-elim (λ e. rw e) (λ e. or-right b e) s
-
-pub not-both : (b c : Bool) → (b && not c) ≡ false → b ≡ true → c ≡ true
-not-both true true e p = refl
-not-both true false e p = absurd (true≢false e)
-not-both false c e p = absurd (false≢true p)
-
-pub both-not : (b c : Bool) → (b ≡ true → c ≡ true) → (b && not c) ≡ false
-both-not true c f = rw (f refl)
-both-not false c f = refl
 
 -- a test that says what it is for
 pub false-test : {P : Type 0} {b : Bool} → (b ≡ true → P) → ¬ P → b ≡ false

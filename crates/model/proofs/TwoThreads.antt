@@ -24,7 +24,7 @@ use Rattle.model.proofs.Locks.{locked, legal-only}
 use Rattle.model.proofs.Agree.{same-thread, legal-agree, extension-agree}
 use Rattle.model.proofs.Threads.{apart-same, two-inside, two-beside}
 use Rattle.model.proofs.OneShown.{candidate-brings}
-use Rattle.model.proofs.ConeExact.{earlier-valid}
+use Rattle.model.proofs.ConeEvents.{earlier-valid}
 
 -- the set of the roots' threads
 unfoldable among : Trace → List ℕ → ℕ → Bool

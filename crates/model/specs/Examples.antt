@@ -1,4 +1,4 @@
--- The paper's worked examples P to X, and Y and Z for re-entrant locks, with what its rules say of them.
+-- The paper's worked examples P to X, Y and Z for re-entrant locks, and two for what these leave open, with what the rules say of them.
 use Prim.Native.Nat.{ℕ}
 use mathlib.Core.Path.{_≡_}
 use mathlib.Core.List.{List, [], _∷_, List·Memᴰ}
@@ -86,7 +86,15 @@ examples =
       trace = r 0 0 ∷ w 0 2 ∷ w 1 0 ∷ w 1 2 ∷ [];
       threadCount = 2;
       races = race 1 3 [] ∷ race 2 4 (1 ∷ 3 ∷ []) ∷ [];
-      proposals = proposal 2 4 (3 ∷ 1 ∷ []) 23 ∷ [];
+      proposals =
+          proposal 2 4 (3 ∷ 1 ∷ []) 23
+          ∷ proposal 2 4 (1 ∷ 0 ∷ []) 21
+          ∷ proposal 2 4 (5 ∷ []) 21
+          ∷ proposal 2 4 (2 ∷ []) 22
+          ∷ proposal 2 4 (1 ∷ 1 ∷ []) 22
+          ∷ proposal 2 4 [] 25
+          ∷ proposal 2 4 (1 ∷ []) 26
+          ∷ [];
     }
     -- V
     ∷ record {
@@ -122,5 +130,19 @@ examples =
       threadCount = 2;
       races = race 1 7 (5 ∷ 6 ∷ []) ∷ [];
       proposals = proposal 1 7 (5 ∷ 6 ∷ []) 0 ∷ [];
+    }
+    -- two lists are possible: the one shown begins with the thread that is not moved
+    ∷ record {
+      trace = w 0 1 ∷ w 0 0 ∷ w 1 2 ∷ w 1 0 ∷ [];
+      threadCount = 2;
+      races = race 2 4 (3 ∷ 1 ∷ []) ∷ [];
+      proposals = proposal 2 4 (1 ∷ 3 ∷ []) 0 ∷ [];
+    }
+    -- two locks: (1, 9) is not reported, since 2 is given back by 7 and not by 5, and rule (iv) brings in 7, so 6, so 1
+    ∷ record {
+      trace = w 0 0 ∷ acq 2 0 ∷ acq 2 1 ∷ w 2 1 ∷ rel 2 1 ∷ r 2 0 ∷ rel 2 0 ∷ r 1 1 ∷ w 1 0 ∷ [];
+      threadCount = 3;
+      races = race 1 6 (2 ∷ 3 ∷ 4 ∷ 5 ∷ []) ∷ race 4 8 (2 ∷ 3 ∷ []) ∷ race 6 9 (2 ∷ 3 ∷ 4 ∷ 8 ∷ 5 ∷ []) ∷ [];
+      proposals = [];
     }
     ∷ []

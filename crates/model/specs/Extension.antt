@@ -8,8 +8,7 @@ use Rattle.model.specs.Good.{Good}
 use Rattle.model.specs.Reordering.{Together}
 
 -- t′ extends t: the same events under the same numbers, then none or more after them, well-formed and within every limit.
--- (The preamble may be any that a good file may have, the empty one too, so a file has room for as many events as a trace may have: the limit
--- of its bytes asks nothing more.)
+-- The limit of bytes asks nothing more: every good trace is the events of a good file (writing: every-good-trace).
 pub record Extension (t t′ : Trace) : Type 0 where
   pub added : Trace
   pub same : t′ ≡ t ++ added

@@ -2,7 +2,7 @@
 use Prim.Native.Nat.{ℕ, suc, _-_, _≤_}
 use mathlib.Core.Path.{_≡_}
 use mathlib.Core.Logic.{_⊎_}
-use mathlib.Core.Bool.{cond, _&&_}
+use mathlib.Core.Bool.{Bool, cond, _&&_}
 use mathlib.Core.List.{List, [], _∷_}
 use lib.ListN.{length}
 use lib.Dec.{leb}
@@ -45,6 +45,9 @@ maxObject = 255
 
 abbrev pub KnownKind : ℕ → Type 0
 KnownKind c = (read ≤ c) × (c ≤ release)
+
+abbrev pub isKnownKind : ℕ → Bool
+isKnownKind c = leb read c && leb c release
 
 -- a good trace
 pub record Good (t : Trace) : Type 0 where

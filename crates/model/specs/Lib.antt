@@ -2,6 +2,7 @@ pub mod Trace
 pub mod Lists
 pub mod Observed
 pub mod LastWrite
+pub mod Rows
 pub mod Good
 pub mod Reordering
 pub mod Sections
@@ -12,8 +13,5 @@ pub mod Extension
 pub mod Check
 pub mod Listing
 pub mod Refusals
-pub mod Rounds
-pub mod Grid
-pub mod Decision
 pub mod StaysTrue
 pub mod Examples

@@ -2,8 +2,9 @@
 use Prim.Native.Nat.{ℕ, _<_}
 use mathlib.Core.Path.{_≡_}
 use mathlib.Core.Logic.{_⊎_, _↔_}
-use mathlib.Core.List.{List, [], _∷_, List·Memᴰ}
+use mathlib.Core.List.{List, List·Memᴰ}
 use Rattle.model.specs.Trace.{Trace}
+use Rattle.model.specs.Lists.{Ordered}
 use Rattle.model.specs.Race.{Conflicting, Witness}
 
 -- a reported pair and the reordering shown for it
@@ -23,8 +24,7 @@ After a b x = (a < x .lower) ⊎ ((a ≡ x .lower) × (b < x .higher))
 
 -- each race comes after all those in front of it
 abbrev pub Sorted : List Race → Type 0
-Sorted [] = Unit {0}
-Sorted (x ∷ l) = ((y : Race) → List·Memᴰ y l → After (x .lower) (x .higher) y) × Sorted l
+Sorted l = Ordered (λ x y. After (x .lower) (x .higher) y) l
 
 -- the list has exactly the trace's races, in order
 pub record Listing (t : Trace) (l : List Race) : Type 0 where

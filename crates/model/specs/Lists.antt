@@ -3,8 +3,8 @@ use Prim.Native.Nat.{ℕ, zero, suc, _≤_}
 use mathlib.Core.Path.{_≡_}
 use mathlib.Core.Logic.{_≢_}
 use mathlib.Core.Bool.{Bool, true, false, cond, _||_, not}
-use mathlib.Core.List.{List, [], _∷_, reverse, List·Memᴰ}
-use lib.ListN.{length}
+use mathlib.Core.List.{List, [], _∷_, _++_, reverse, List·Memᴰ}
+use lib.ListN.{length, drop}
 use lib.Dec.{eqb}
 use Rattle.model.specs.Trace.{Trace, Valid, threadOf}
 
@@ -52,6 +52,15 @@ listed k l = anyIn (λ j. eqb k j) l
 -- two events
 abbrev pub pair : ℕ → ℕ → List ℕ
 pair a b = a ∷ b ∷ []
+
+-- each member stands before all those behind it, by an order R
+abbrev pub Ordered : {A : Type 0} → (A → A → Type 0) → List A → Type 0
+Ordered R [] = Unit {0}
+Ordered {A} R (x ∷ l) = ((y : A) → List·Memᴰ y l → R x y) × Ordered R l
+
+-- a list with ρ in its front, and the rest as it was
+unfoldable pub inFront : List ℕ → List ℕ → List ℕ
+inFront ρ list = ρ ++ drop (length ρ) list
 
 -- ---- threads
 

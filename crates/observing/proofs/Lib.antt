@@ -3,4 +3,3 @@ pub mod ObservingExact
 pub mod EntriesExact
 -- The ways through the code
 pub mod EntriesLaws
-pub mod ObservingLaws

@@ -9,7 +9,7 @@ use Rattle.model.specs.Trace.{Trace, read, kindOf}
 use Rattle.model.specs.Observed.{observed}
 use Rattle.model.proofs.Tests.{by-cases, kind-valid}
 use Rattle.model.proofs.ObservedExact.{observed-write-exactly, observed-start-exactly}
-use Rattle.observing.specs.Observing.{Reads, ObservedOf, sees-write, sees-start, no-read, sees, observedIn}
+use Rattle.observing.specs.Observing.{IsRead, ObservedOf, sees-write, sees-start, no-read, sees, observedIn}
 use Rattle.observing.specs.declared.Observed.{Observed}
 use Rattle.observing.specs.declared.Observed.the-variants.{Write}
 
@@ -18,7 +18,7 @@ some-write zero ne = absurd (ne refl)
 some-write (suc w) ne = refl
 
 module _ (t : Trace) (k : ℕ) where
-  by-write : (w : ℕ) → observed t k ≡ w → Reads t k → ObservedOf t k (sees w)
+  by-write : (w : ℕ) → observed t k ≡ w → IsRead t k → ObservedOf t k (sees w)
   by-write zero e v = sees-start v (observed-start-exactly t k .0 e)
   by-write (suc w) e v = sees-write v (observed-write-exactly t k (suc w) (λ z. omega arith) .0 e)
 

@@ -9,15 +9,15 @@ use Rattle.observing.specs.declared.Observed.{Observed}
 use Rattle.observing.specs.declared.Observed.the-variants.{Write, Start, NotARead}
 
 -- event k is a read
-pub record Reads (t : Trace) (k : ℕ) : Type 0 where
+pub record IsRead (t : Trace) (k : ℕ) : Type 0 where
   pub valid : Valid t k
   pub kind : kindOf t k ≡ read
 
 -- what each answer means
 pub data ObservedOf (t : Trace) (k : ℕ) : Observed → Type 0 where
-  sees-write : {w : ℕ} → Reads t k → LastBefore t k w → ObservedOf t k (Write w)
-  sees-start : Reads t k → SeesStart t k → ObservedOf t k Start
-  no-read : ¬ Reads t k → ObservedOf t k NotARead
+  sees-write : {w : ℕ} → IsRead t k → LastBefore t k w → ObservedOf t k (Write w)
+  sees-start : IsRead t k → SeesStart t k → ObservedOf t k Start
+  no-read : ¬ IsRead t k → ObservedOf t k NotARead
 
 -- computed
 abbrev pub sees : ℕ → Observed

@@ -1,12 +1,11 @@
-// Question 2 on the events of a good file: which write does an event see? Asked for one event, or for all of them at once; either way
-// the events pass once, from the first on: those up to that event, or all.
+// Question 2 on the events of a good file: which write does an event see? Asked for one event, or for all of them at once.
+use limits::Event;
 use limits::Refusal;
-use limits::Trace;
 ghost use mathlib.Core.Path.{_≡_};
-ghost use Rattle.model.specs.Good.{Good};
-ghost use Rattle.format.specs.Bytes.{trace};
+ghost use mathlib.Core.Option.{none};
+ghost use Rattle.table.specs.Table.{trace, Linked};
 ghost use Rattle.observing.specs.Observing.{observedIn};
-ghost use Rattle.observing.specs.Entries.{answerOf, observationsIn};
+ghost use Rattle.observing.specs.Entries.{answerOf, entryAt, observationsIn};
 
 // The answer to question 2: the number of the write that the event sees, the start, or that it is not a read.
 pub enum Observed {
@@ -38,29 +37,44 @@ pub fn answer_of(entry: u16) -> Observed
     Observed::Write(entry)
 }
 
-// The observed write of event k of a good file's events, whatever k is.
-pub fn observed_in(ev: &[u8], k: u16) -> Observed
-    requires { ⌜ Good (trace (now ev)) ⌝ }
-    ensures { λ r. ⌜ r ≡ observedIn (trace (now (ev .entry))) k ⌝ }
+// The entry of number k, whatever k is.
+fn entry_at(table: &[u16], k: usize) -> u16
+    requires { ⌜ Linked (now table) ⌝ }
+    ensures { λ r. ⌜ r ≡ entryAt (trace (now (table .entry))) k ⌝ }
 {
-    let at = k as usize;
-    if format::count(ev) < at {
-        return Observed::NotARead;
+    if k < 1 {
+        return NOT_A_READ;
     }
-    let mut entries = [0u16; Trace::PLACES];
-    links::observe(ev, at, NOT_A_READ, &mut entries);
-    answer_of(entries[at])
+    if table::count(table) < k {
+        return NOT_A_READ;
+    }
+    if table::kind_at(table, k) != Event::READ {
+        return NOT_A_READ;
+    }
+    table::observed_at(table, k) as u16
 }
 
-// The observed writes of all events of a good file's events: entry k of the lent list is the answer for number k, from 0 on.
-pub fn observed_writes_in(ev: &[u8], list: &mut [u16]) -> Observations
-    requires { ⌜ Good (trace (now ev)) ⌝ }
-    ensures { λ r. ⌜ (r, now (list .exit)) ≡ observationsIn (trace (now (ev .entry))) (now (list .entry)) ⌝ }
+// The observed write of event k, whatever k is.
+pub fn observed_in(table: &[u16], k: u16) -> Observed
+    requires { ⌜ Linked (now table) ⌝ }
+    ensures { λ r. ⌜ r ≡ observedIn (trace (now (table .entry))) k ⌝ }
 {
-    let n = format::count(ev);
+    answer_of(entry_at(table, k as usize))
+}
+
+// The observed writes of all events: entry k of the lent list is the answer for number k, from 0 on.
+pub fn observations_in(table: &[u16], list: &mut [u16]) -> Observations
+    requires { ⌜ Linked (now table) ⌝ }
+    ensures { λ r. ⌜ (r, now (list .exit)) ≡ observationsIn none (trace (now (table .entry))) (now (list .entry)) ⌝ }
+{
+    let n = table::count(table);
     if list.len() <= n {
         return Observations::Refused(Refusal::ListShort);
     }
-    links::observe(ev, n, NOT_A_READ, list);
+    let mut k = 0;
+    while k <= n {
+        list[k] = entry_at(table, k);
+        k += 1;
+    }
     Observations::Given(n as u16)
 }

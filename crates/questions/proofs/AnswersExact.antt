@@ -1,48 +1,47 @@
--- Each answer to a question is given exactly in its case.
+-- Each answer to questions 1, 2 and 6 is given exactly in its case.
 use Prim.Native.Nat.{ℕ}
-use mathlib.Core.Path.{_≡_, refl}
-use mathlib.Core.Logic.{_↔_}
-use mathlib.Core.Option.{Option, none, some}
-use mathlib.Core.List.{List}
-use Rattle.limits.specs.Limits.{eventBytes}
-use Rattle.format.specs.Layout.{events}
-use Rattle.limits.specs.declared.Refusal.{Refusal}
-use Rattle.judging.specs.Judged.{fileRefusal}
-use Rattle.judging.proofs.FileLaws.{meaning}
+use native.Mathlib.Omega.{arith}
+use mathlib.Core.Path.{_≡_, refl, ap}
+use mathlib.Core.Logic.{_↔_, Iff·rfl}
+use mathlib.Core.List.{List, [], _∷_}
+use lib.ListN.{length}
+use lib.Dec.{eqb}
+use borrow.Author.Tests.{eqb-true, eqb-false, eq-eqb, ne-eqb}
+use Rattle.model.proofs.Tests.{by-cases}
+use Rattle.format.specs.Layout.{preamble}
+use Rattle.judging.specs.Judged.{eventsOf}
+use Rattle.judging.proofs.FileLaws.{file-asked}
 use Rattle.observing.proofs.ObservingExact.{observed-in-exactly}
-use Rattle.observing.specs.Observing.{observedIn}
-use Rattle.questions.specs.Answers.{Judges, judge-refused, judge-good, judgement, answerJudge, Observes, observed-refused, observed-good, observedBy, answerObserved}
+use Rattle.questions.specs.Answers.{Judges, answerJudge, Observes, answerObserved}
+use Rattle.questions.specs.Note.{Slice, Part, NoteOf, own-note, lent-note, Notes, noteOf, answerNote}
 use Rattle.questions.specs.declared.Judgement.{Judgement}
 use Rattle.observing.specs.declared.Observed.{Observed}
 
--- ---- question 1
+pub judge-exactly : (s : List ℕ) (j : Judgement) → (answerJudge s ≡ j) ↔ Judges s j
+unfolding answerJudge
+judge-exactly s j = file-asked s (λ g x. Iff·rfl) j
 
-module _ (s : List ℕ) where
-  judged : (o : Option Refusal) → fileRefusal eventBytes s ≡ o → Judges s (judgement o (events eventBytes s))
-  judged none e = judge-good (meaning s none .0 e)
-  judged (some r) e = judge-refused (meaning s (some r) .0 e)
+pub observed-exactly : (s : List ℕ) (k : ℕ) (o : Observed) → (answerObserved s k ≡ o) ↔ Observes s k o
+unfolding answerObserved
+observed-exactly s k o = file-asked s (λ g. observed-in-exactly (eventsOf s) k) o
 
-  given : (j : Judgement) → Judges s j → answerJudge s ≡ j
-  unfolding answerJudge
-  given j (judge-refused {r} p) = rw (meaning s (some r) .1 p)
-  given j (judge-good g) = rw (meaning s none .1 g)
+-- ---- question 6
 
-  pub judge-exactly : (j : Judgement) → (answerJudge s ≡ j) ↔ Judges s j
-  unfolding answerJudge
-  judge-exactly j = ((λ e. rw e at (judged (fileRefusal eventBytes s) refl)), given j)
+no-bytes : (l : List ℕ) → length l ≡ 0 → l ≡ []
+no-bytes [] e = refl
+no-bytes (x ∷ l) e = absurd (omega arith)
 
--- ---- question 2
+module _ (file operator : Slice) where
+  noted : NoteOf file operator (noteOf file operator)
+  noted =
+      by-cases (eqb (length (preamble (file .now))) 0)
+      (λ z. rw z (lent-note (no-bytes (preamble (file .now)) (eqb-true _ _ z))))
+      (λ z. rw z (own-note (λ e. eqb-false (length (preamble (file .now))) 0 z (ap length e))))
 
-module _ (s : List ℕ) (k : ℕ) where
-  observes : (p : Option Refusal) → fileRefusal eventBytes s ≡ p → Observes s k (observedBy p (events eventBytes s) k)
-  observes none e = observed-good (meaning s none .0 e) (observed-in-exactly (events eventBytes s) k (observedIn (events eventBytes s) k) .0 refl)
-  observes (some r) e = observed-refused (meaning s (some r) .0 e)
+  returned : (p : Part) → NoteOf file operator p → noteOf file operator ≡ p
+  returned p (own-note n) = rw (ne-eqb (length (preamble (file .now))) 0 (λ z. n (no-bytes (preamble (file .now)) z)))
+  returned p (lent-note e) = rw (eq-eqb (length (preamble (file .now))) 0 (ap length e))
 
-  told : (o : Observed) → Observes s k o → answerObserved s k ≡ o
-  unfolding answerObserved
-  told o (observed-refused {r} p) = rw (meaning s (some r) .1 p)
-  told o (observed-good g p) = rw (meaning s none .1 g) (observed-in-exactly (events eventBytes s) k o .1 p)
-
-  pub observed-exactly : (o : Observed) → (answerObserved s k ≡ o) ↔ Observes s k o
-  unfolding answerObserved
-  observed-exactly o = ((λ e. rw e at (observes (fileRefusal eventBytes s) refl)), told o)
+  pub note-exactly : (p : Part) → (answerNote file operator ≡ p) ↔ Notes file operator p
+  unfolding answerNote
+  note-exactly p = file-asked (file .now) (λ g q. ((λ e. rw e at noted), returned q)) p

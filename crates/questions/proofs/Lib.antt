@@ -3,7 +3,7 @@ pub mod AnswersExact
 pub mod ObservationsExact
 -- The ways through the code
 pub mod AnswerLaws
-pub mod VerdictLaws
+pub mod NoteLaws
 pub mod VerdictsExact
 -- Demand 3 of the answers
 pub mod StayTrue

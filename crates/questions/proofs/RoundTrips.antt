@@ -5,21 +5,24 @@ use mathlib.Core.Path.{_≡_, refl, sym, _∙_, ap}
 use mathlib.Core.Logic.{_≢_}
 use mathlib.Core.Option.{none}
 use mathlib.Core.List.{List, []}
-use lib.ListN.{length, take, drop}
-use lib.Seq.{take-append-seam}
+use lib.ListN.{length, take}
 use Rattle.model.specs.Trace.{Trace, threadList, kindList, objectList}
+use Rattle.model.specs.Lists.{inFront}
+use Rattle.model.proofs.Lists.{front-taken}
 use Rattle.limits.specs.Limits.{eventBytes}
-use Rattle.limits.specs.declared.Refusal.the-variants.{ListShort}
-use Rattle.format.specs.Layout.{preamble, events}
-use Rattle.judging.specs.Judged.{GoodFile}
-use Rattle.judging.proofs.FileLaws.{meaning}
-use Rattle.noting.specs.Note.{Slice, ownNote, own-note, lent-note, answerNote}
-use Rattle.noting.proofs.NoteExact.{note-exactly}
-use Rattle.layout.specs.Written.{written, traceFrom}
-use Rattle.layout.proofs.ListLaws.{lists-back, lists-even}
-use Rattle.layout.proofs.ReadsBack.{reads-back}
-use Rattle.layout.proofs.WritesAgain.{writes-again, plain-today}
-use Rattle.writing.specs.Writing.{fileFrom, holding, Writes, uneven, not-read, buffer-short, wrote}
+use Rattle.model.specs.Rows.{Quiet}
+use Rattle.model.proofs.RowsExact.{quiet-both, both-quiet}
+use Rattle.limits.specs.Refusals.{refuses, answers}
+use Rattle.format.specs.Layout.{preamble}
+use Rattle.judging.specs.Judged.{IsGoodFile, eventsOf, rowsOfFile}
+use Rattle.judging.proofs.FileLaws.{meaning, quiet-file}
+use Rattle.questions.specs.Note.{Slice, ownNote, own-note, lent-note, answerNote}
+use Rattle.questions.proofs.AnswersExact.{note-exactly}
+use Rattle.writing.specs.Written.{written, traceFrom}
+use Rattle.writing.proofs.ListLaws.{lists-back, lists-even}
+use Rattle.writing.proofs.ReadsBack.{reads-back}
+use Rattle.writing.proofs.WritesAgain.{writes-again, plain-today}
+use Rattle.writing.specs.Writing.{fileFrom, wrote, writerRows, Writes}
 use Rattle.writing.proofs.WriteLaws.{refused-no-bytes}
 use Rattle.writing.proofs.WrittenExact.{write-exactly}
 use Rattle.writing.specs.declared.Written.{Written}
@@ -30,11 +33,11 @@ use Rattle.questions.specs.RoundTrips.{AnswersFor, WhatIsWritten, WhatIs
 -- ---- what is written
 
 -- a good file whose bytes are those of p and t
-module _ (p : List ℕ) (t : Trace) (g : GoodFile eventBytes (written eventBytes p t)) where
+module _ (p : List ℕ) (t : Trace) (g : IsGoodFile (written eventBytes p t)) where
   note-of : (file operator : Slice) → file .now ≡ written eventBytes p t → p ≢ [] → answerNote file operator ≡ record { begins = file .ptr; bytes = p }
   note-of file operator e ne =
       let b : preamble (file .now) ≡ p = ap preamble e ∙ reads-back eventBytes (omega arith) p t .same-preamble in
-      note-exactly file operator (ownNote file) .1 (own-note (rw e g) (λ f. ne (sym b ∙ f)))
+      note-exactly file operator (ownNote file) .1 (answers (quiet-file (file .now) .1 (rw e g)) (own-note (λ f. ne (sym b ∙ f))))
       ∙ ap (λ (l : List ℕ). record { begins = file .ptr; bytes = l }) b
 
   answers-for : AnswersFor (written eventBytes p t) p t
@@ -43,20 +46,20 @@ module _ (p : List ℕ) (t : Trace) (g : GoodFile eventBytes (written eventBytes
     read = reads-back eventBytes (omega arith) p t;
     judged = rw (meaning (written eventBytes p t) none .1 g, reads-back eventBytes (omega arith) p t .same-events);
     noted = note-of;
-    lent = λ file operator e f. note-exactly file operator _ .1 (lent-note (rw e g) (ap preamble e ∙ reads-back eventBytes (omega arith) p t .same-preamble ∙ f));
+    lent = λ file operator e f. note-exactly file operator _ .1 (answers (quiet-file (file .now) .1 (rw e g)) (lent-note (ap preamble e ∙ reads-back eventBytes (omega arith) p t .same-preamble ∙ f)));
   }
 
 module _ (p cs ds xs buffer : List ℕ) (n : ℕ) (after : List ℕ) where
   front-is : {w : Written × List ℕ} → Writes p cs ds xs buffer w → w ≡ (Bytes n, after) → AnswersFor (take n after) p (traceFrom cs ds xs)
-  front-is (uneven v) e = absurd (refused-no-bytes ListShort n (ap (λ (x : Written × List ℕ). x .0) e))
-  front-is (not-read {r} v f) e = absurd (refused-no-bytes r n (ap (λ (x : Written × List ℕ). x .0) e))
-  front-is (buffer-short v g h) e = absurd (refused-no-bytes ListShort n (ap (λ (x : Written × List ℕ). x .0) e))
-  front-is (wrote v g h) e =
+  front-is (refuses {r} f) e = absurd (refused-no-bytes r n (ap (λ (x : Written × List ℕ). x .0) e))
+  front-is (answers q f) e =
       let s = fileFrom p cs ds xs in
-      let c : Bytes (length s) ≡ Bytes n = ap (λ (x : Written × List ℕ). x .0) e in
+      let g = quiet-file s .0 (both-quiet (rowsOfFile s) _ (q .1) .0) in
+      let w : wrote s buffer ≡ (Bytes n, after) = f ∙ e in
+      let c : Bytes (length s) ≡ Bytes n = ap (λ (x : Written × List ℕ). x .0) w in
       let a : length s ≡ n = cc in
-      let b : holding s buffer ≡ after = ap (λ (x : Written × List ℕ). x .1) e in
-      let d : take n after ≡ s = rw (← a, ← b) (take-append-seam s (drop (length s) buffer)) in
+      let b : inFront s buffer ≡ after = ap (λ (x : Written × List ℕ). x .1) w in
+      let d : take n after ≡ s = rw (← a, ← b) (front-taken s buffer) in
       rw d (answers-for p (traceFrom cs ds xs) g)
 
 -- the first round trip
@@ -68,9 +71,9 @@ what-is-written p cs ds xs buffer n after e = front-is p cs ds xs buffer n after
 -- the second round trip
 pub what-is-read : WhatIsRead
 what-is-read s bytes g buffer h =
-    let t = events eventBytes s in
+    let t = eventsOf s in
     let d : fileFrom (preamble s) (threadList t) (kindList t) (objectList t) ≡ s =
     ap (written eventBytes (preamble s)) (lists-back t) ∙ writes-again eventBytes (omega arith) s bytes (g .layout) (plain-today s) in
-    let f = fileFrom (preamble s) (threadList t) (kindList t) (objectList t) in
-    let w : Writes (preamble s) (threadList t) (kindList t) (objectList t) buffer (Bytes (length f), holding f buffer) = wrote (lists-even t) (rw d g) (rw d h) in
-    write-exactly (preamble s) (threadList t) (kindList t) (objectList t) buffer (Bytes (length s), holding s buffer) .1 (rw d at w)
+    let q : Quiet (writerRows (preamble s) (threadList t) (kindList t) (objectList t) buffer) =
+    ((λ n. n (lists-even t)), rw d (quiet-both (rowsOfFile s) _ (quiet-file s .1 g) ((λ l. omega arith), tt))) in
+    write-exactly (preamble s) (threadList t) (kindList t) (objectList t) buffer (Bytes (length s), inFront s buffer) .1 (answers q (ap (λ (x : List ℕ). wrote x buffer) d))

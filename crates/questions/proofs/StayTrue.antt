@@ -4,55 +4,56 @@ use native.Mathlib.Omega.{arith}
 use mathlib.Core.Path.{_≡_, refl, sym, _∙_, ap}
 use mathlib.Core.Option.{Option, none, some}
 use mathlib.Core.List.{List}
-use lib.ListN.{length, take, drop}
-use lib.Seq.{take-append-seam}
+use lib.ListN.{length, take}
 use Rattle.model.specs.Lists.{TwoThreads}
-use Rattle.model.specs.Decision.{witness}
-use Rattle.model.specs.StaysTrue.{StaysTrue}
+use Rattle.model.proofs.Lists.{front-taken}
+use Rattle.decision.specs.Decision.{witness}
+use Rattle.decision.specs.StaysTrue.{AnswersStay}
 use Rattle.model.proofs.Agree.{extended-conflicting}
-use Rattle.model.proofs.StaysTrue.{stays-true}
-use Rattle.limits.specs.declared.Refusal.{Refusal}
-use Rattle.pair.specs.Pair.{inFront}
-use Rattle.verdicts.specs.Verdict.{verdictBy, verdictIn}
-use Rattle.questions.specs.Verdicts.{eventsOf, VerdictAsked, answerVerdict, check-yes, answerCheck}
-use Rattle.verdicts.specs.Deciding.{finding}
+use Rattle.decision.proofs.StaysTrue.{answers-stay}
+use Rattle.model.specs.Race.{Conflicting}
+use Rattle.model.proofs.RowsExact.{quiet-both, both-quiet}
+use Rattle.limits.specs.Refusals.{refuses, answers}
+use Rattle.judging.specs.Judged.{IsGoodFile, rowsOfFile, eventsOf}
+use Rattle.judging.proofs.FileLaws.{quiet-file}
+use Rattle.races.specs.Witness.{listWith}
+use Rattle.verdicts.specs.Verdict.{cleared, finding}
+use Rattle.questions.specs.Verdicts.{verdictRows, Verdict, answerVerdict, reorderingRows, check-yes, answerCheck}
 use Rattle.questions.specs.AnswersStayTrue.{Extends, verdictOn, listAfter, NotRefused, SameAnswer, DemandThree}
 use Rattle.verdicts.specs.declared.Finding.{Finding}
 use Rattle.verdicts.specs.declared.Finding.the-variants.{Refused, Reported}
 use Rattle.checking.specs.declared.Check.the-variants.{Yes}
-use Rattle.questions.proofs.VerdictsExact.{refusalOf, refusal-exactly, check-reordering-exactly}
-
--- the front of a list that shows ρ is ρ
-shown-front : (ρ list : List ℕ) → take (length ρ) (inFront ρ list) ≡ ρ
-unfolding inFront
-shown-front ρ list = take-append-seam ρ (drop (length ρ) list)
+use Rattle.questions.proofs.VerdictsExact.{surely-conflicting, told, verdict-exactly, check-reordering-exactly}
 
 reported-length : (o : Option (List ℕ)) (n : ℕ) → finding o ≡ Reported n → (ρ : List ℕ) × (o ≡ some ρ) × (n ≡ length ρ)
 reported-length none n e = let z : _≡_ {A = ℕ} 0 1 = cc in absurd (omega arith)
 reported-length (some ρ) n e = (ρ, refl, cc)
 
+-- an asking that is not refused
+record VerdictAsked (s : List ℕ) (a b : ℕ) (list area : List ℕ) : Type 0 where
+  file : IsGoodFile s
+  conflicting : Conflicting (eventsOf s) a b
+  is : answerVerdict s a b list area ≡ (finding (witness (eventsOf s) a b), listWith (witness (eventsOf s) a b) list, cleared area)
+
 module _ (s : List ℕ) (a b : ℕ) (list area : List ℕ) where
-  answer-by : {r : Option Refusal} {o : Option (List ℕ)} → refusalOf s a b list area ≡ r → witness (eventsOf s) a b ≡ o → answerVerdict s a b list area ≡ verdictBy r o list area
-  unfolding answerVerdict verdictIn
-  answer-by e w = rw (e, w)
+  by-answer : {x : Finding × List ℕ × List ℕ} → Verdict s a b list area x → answerVerdict s a b list area ≡ x → NotRefused (x .0) → VerdictAsked s a b list area
+  by-answer (refuses {r} f) e n = absurd (n r refl)
+  by-answer (answers q m) e n =
+      let p = both-quiet (rowsOfFile s) (verdictRows (eventsOf s) a b list area) q in
+      let g = quiet-file s .0 (p .0) in
+      let c = surely-conflicting (eventsOf s) a b (p .1 .0) in
+      record { file = g; conflicting = c; is = e ∙ sym (told (eventsOf s) a b list area (g .good .well-formed) c _ m) }
 
   asked : NotRefused (verdictOn s a b list area) → VerdictAsked s a b list area
-  asked n = go (refusalOf s a b list area) refl
-    where
-      go : (o : Option Refusal) → refusalOf s a b list area ≡ o → VerdictAsked s a b list area
-      go none e = refusal-exactly s a b list area none .0 e
-      go (some r) e = absurd (n r (ap (λ (x : Finding × List ℕ × List ℕ). x .0) (answer-by e refl)))
+  asked n = by-answer (verdict-exactly s a b list area (answerVerdict s a b list area) .0 refl) refl n
 
   module _ (q : VerdictAsked s a b list area) where
-    not-refused : refusalOf s a b list area ≡ none
-    not-refused = refusal-exactly s a b list area none .1 q
-
     finding-is : (o : Option (List ℕ)) → witness (eventsOf s) a b ≡ o → verdictOn s a b list area ≡ finding o
-    finding-is none w = ap (λ (x : Finding × List ℕ × List ℕ). x .0) (answer-by not-refused w)
-    finding-is (some ρ) w = ap (λ (x : Finding × List ℕ × List ℕ). x .0) (answer-by not-refused w)
+    finding-is o w = ap (λ (x : Finding × List ℕ × List ℕ). x .0) (q .is) ∙ ap finding w
 
     front-is : (ρ : List ℕ) → witness (eventsOf s) a b ≡ some ρ → take (length ρ) (listAfter s a b list area) ≡ ρ
-    front-is ρ w = ap (λ (x : Finding × List ℕ × List ℕ). take (length ρ) (x .1)) (answer-by not-refused w) ∙ shown-front ρ list
+    front-is ρ w =
+        ap (λ (x : Finding × List ℕ × List ℕ). take (length ρ) (x .1)) (q .is) ∙ ap (λ (o : Option (List ℕ)). take (length ρ) (listWith o list)) w ∙ front-taken ρ list
 
   -- a reported pair: its witness, in front of the lent list
   record Shows (n : ℕ) : Type 0 where
@@ -72,8 +73,8 @@ module _ (s : List ℕ) (a b : ℕ) (list area : List ℕ) where
       record { asked-of = q; ρ = x .0; is = x .1; long = x .2; front = ap (λ (k : ℕ). take k (listAfter s a b list area)) (x .2) ∙ front-is q (x .0) (x .1) }
 
 module _ (s s′ : List ℕ) (ext : Extends s s′) (a b : ℕ) (list area list′ area′ : List ℕ) where
-  stays : VerdictAsked s a b list area → StaysTrue (eventsOf s) (eventsOf s′) a b
-  stays q = stays-true (eventsOf s) (eventsOf s′) (q .file .good) (ext .extension) a b (q .conflicting)
+  stays : VerdictAsked s a b list area → AnswersStay (eventsOf s) (eventsOf s′) a b
+  stays q = answers-stay (eventsOf s) (eventsOf s′) (q .file .good) (ext .extension) a b (q .conflicting)
 
   same : TwoThreads (eventsOf s) → VerdictAsked s a b list area → VerdictAsked s′ a b list′ area′ → SameAnswer s s′ a b list area list′ area′
   same two q q′ =
@@ -94,8 +95,9 @@ module _ (s s′ : List ℕ) (ext : Extends s s′) (a b : ℕ) (list area list�
   yes n e =
       let y = shows s a b list area n e in
       let q = y .asked-of in
+      let c = extended-conflicting (eventsOf s) (eventsOf s′) (ext .extension) a b (q .conflicting) in
       rw (y .front) (check-reordering-exactly s′ a b (y .ρ) Yes .1
-      (check-yes (ext .file) (extended-conflicting (eventsOf s) (eventsOf s′) (ext .extension) a b (q .conflicting)) (stays q .answer-stays (y .ρ) (y .is) .0)))
+      (answers (quiet-both (rowsOfFile s′) (reorderingRows (eventsOf s′) a b) (quiet-file s′ .1 (ext .file)) ((λ n. n c), tt)) (check-yes (stays q .answer-stays (y .ρ) (y .is) .0))))
 
 pub answers-stay-true : DemandThree
 answers-stay-true s s′ ext a b list area list′ area′ = record {

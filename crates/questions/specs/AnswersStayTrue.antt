@@ -6,17 +6,16 @@ use mathlib.Core.List.{List}
 use lib.ListN.{take}
 use Rattle.model.specs.Lists.{TwoThreads}
 use Rattle.model.specs.Extension.{Extension, PredictableInExtension}
-use Rattle.limits.specs.Limits.{eventBytes}
 use Rattle.limits.specs.declared.Refusal.{Refusal}
-use Rattle.judging.specs.Judged.{GoodFile}
-use Rattle.questions.specs.Verdicts.{eventsOf, answerVerdict, answerCheck}
+use Rattle.judging.specs.Judged.{IsGoodFile, eventsOf}
+use Rattle.questions.specs.Verdicts.{answerVerdict, answerCheck}
 use Rattle.verdicts.specs.declared.Finding.{Finding}
 use Rattle.verdicts.specs.declared.Finding.the-variants.{Refused, Reported}
 use Rattle.checking.specs.declared.Check.the-variants.{Yes}
 
 -- s′ is a good file, with any preamble that a good file may have, whose events extend those of s
 pub record Extends (s s′ : List ℕ) : Type 0 where
-  pub file : GoodFile eventBytes s′
+  pub file : IsGoodFile s′
   pub extension : Extension (eventsOf s) (eventsOf s′)
 
 -- question 3 asked of s, with any lent list and work area: the answer, and the lent list after it

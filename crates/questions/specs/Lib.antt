@@ -2,7 +2,7 @@
 pub mod Answers
 pub mod Observations
 pub mod Verdicts
-pub mod Searching
+pub mod Note
 -- demand 3, of the answers
 pub mod AnswersStayTrue
 -- the writer beside the questions

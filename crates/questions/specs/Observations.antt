@@ -1,34 +1,31 @@
 -- Question 2 for all events at once: the answer, and the lent list after it.
-use Prim.Native.Nat.{ℕ}
+use Prim.Native.Nat.{ℕ, _≤_}
 use mathlib.Core.Path.{_≡_}
 use mathlib.Core.Bool.{cond}
-use mathlib.Core.Option.{Option, none, some}
-use mathlib.Core.List.{List}
-use lib.ListN.{getD}
+use mathlib.Core.List.{List, [], _∷_, _++_}
+use lib.ListN.{length, getD}
 use lib.Dec.{leb}
 use Rattle.model.specs.Trace.{Trace}
-use Rattle.limits.specs.Limits.{eventBytes}
-use Rattle.format.specs.Layout.{events}
-use Rattle.limits.specs.declared.Refusal.{Refusal}
-use Rattle.judging.specs.Judged.{GoodFile, FileRefusal, fileRefusal}
+use Rattle.model.specs.Rows.{Row, row, nothing}
+use Rattle.limits.specs.Refusals.{Asked}
+use Rattle.judging.specs.Judged.{eventsOf, refusalOf, rowsOfFile}
 use Rattle.observing.specs.Entries.{answerOf, ObservationsOf, observationsIn}
 use Rattle.observing.specs.declared.Observations.{Observations}
 use Rattle.observing.specs.declared.Observations.the-variants.{Refused, Given}
 use Rattle.observing.specs.declared.Observed.the-variants.{NotARead}
 use Rattle.questions.specs.Answers.{answerObserved}
 
+-- the rows after those of the file
+abbrev pub entryRows : Trace → List ℕ → List Row
+entryRows t l = row 10 nothing (length l ≤ length t) ∷ []
+
 -- what each answer means; a refusal leaves the list as it was
-pub data ObservesAll (s l : List ℕ) : Observations × List ℕ → Type 0 where
-  all-refused : {r : Refusal} → FileRefusal eventBytes s r → ObservesAll s l (Refused r, l)
-  all-good : {o : Observations × List ℕ} → GoodFile eventBytes s → ObservationsOf (events eventBytes s) l o → ObservesAll s l o
+abbrev pub ObservesAll : List ℕ → List ℕ → Observations × List ℕ → Type 0
+ObservesAll s l o = Asked (rowsOfFile s ++ entryRows (eventsOf s) l) (λ r. (Refused r, l)) (ObservationsOf (eventsOf s) l) o
 
 -- computed
-abbrev pub observationsBy : Option Refusal → Trace → List ℕ → Observations × List ℕ
-observationsBy none t l = observationsIn t l
-observationsBy (some r) t l = (Refused r, l)
-
 unfoldable pub answerObservations : List ℕ → List ℕ → Observations × List ℕ
-answerObservations s l = observationsBy (fileRefusal eventBytes s) (events eventBytes s) l
+answerObservations s l = observationsIn (refusalOf s) (eventsOf s) l
 
 -- its entries are question 2's answers one by one, and what has none is not a read
 abbrev pub OneByOne : List ℕ → Observations × List ℕ → Type 0

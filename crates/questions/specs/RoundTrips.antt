@@ -5,14 +5,14 @@ use mathlib.Core.Logic.{_≢_}
 use mathlib.Core.List.{List, []}
 use lib.ListN.{length, take}
 use Rattle.model.specs.Trace.{Trace, threadList, kindList, objectList}
-use Rattle.model.specs.Lists.{threads}
+use Rattle.model.specs.Lists.{threads, inFront}
 use Rattle.limits.specs.Limits.{eventBytes}
-use Rattle.format.specs.Layout.{preamble, events}
-use Rattle.judging.specs.Judged.{GoodFile}
-use Rattle.noting.specs.Note.{Slice, whole, answerNote}
-use Rattle.layout.specs.Written.{traceFrom}
-use Rattle.layout.specs.RoundTrip.{ReadsAs, AllBytes}
-use Rattle.writing.specs.Writing.{holding, answerWrite}
+use Rattle.format.specs.Layout.{preamble}
+use Rattle.judging.specs.Judged.{IsGoodFile, eventsOf}
+use Rattle.questions.specs.Note.{Slice, whole, answerNote}
+use Rattle.writing.specs.Written.{traceFrom}
+use Rattle.writing.specs.RoundTrip.{ReadsAs, AllBytes}
+use Rattle.writing.specs.Writing.{answerWrite}
 use Rattle.writing.specs.declared.Written.{Written}
 use Rattle.writing.specs.declared.Written.the-variants.{Bytes}
 use Rattle.questions.specs.Answers.{answerJudge}
@@ -35,8 +35,8 @@ WhatIsWritten =
 -- the writer with what was read of a file s
 abbrev pub writtenAgain : List ℕ → List ℕ → Written × List ℕ
 writtenAgain s buffer =
-    answerWrite (preamble s) (threadList (events eventBytes s)) (kindList (events eventBytes s)) (objectList (events eventBytes s)) buffer
+    answerWrite (preamble s) (threadList (eventsOf s)) (kindList (eventsOf s)) (objectList (eventsOf s)) buffer
 
 -- the second round trip: whatever is good is the same file again, byte for byte
 abbrev pub WhatIsRead : Type 0
-WhatIsRead = (s : List ℕ) → AllBytes s → GoodFile eventBytes s → (buffer : List ℕ) → length s ≤ length buffer → writtenAgain s buffer ≡ (Bytes (length s), holding s buffer)
+WhatIsRead = (s : List ℕ) → AllBytes s → IsGoodFile s → (buffer : List ℕ) → length s ≤ length buffer → writtenAgain s buffer ≡ (Bytes (length s), inFront s buffer)

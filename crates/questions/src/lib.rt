@@ -1,26 +1,23 @@
-// The public questions. Each takes a file's bytes, judges them first, and asks nothing of its caller. Question 6 is `note` of the crate noting;
-// the writer, which asks nothing either, is `write_file` of the crate writing.
+// The public questions. Each takes a file's bytes, judges them first, and asks nothing of its caller. The writer, which asks nothing either,
+// is `write_file` of the crate writing.
 pub use checking::Check;
 use format::File;
 use limits::Refusal;
-use limits::Trace;
-use listing::Listed;
-pub use noting::note;
 pub use observing::Observations;
 pub use observing::Observed;
 pub use observing::answer_of;
+use opening::Opened;
 pub use verdicts::Finding;
+pub use verdicts::Next;
 pub use writing::Written;
 pub use writing::write_file;
 ghost use mathlib.Core.Path.{_≡_};
-ghost use mathlib.Core.Option.{none};
-ghost use Rattle.model.specs.Good.{Good};
-ghost use Rattle.model.specs.Decision.{nextRace};
-ghost use Rattle.format.specs.Bytes.{trace};
+ghost use Prim.Native.Nat.{_≤_};
+ghost use lib.ListN.{length};
 ghost use Rattle.questions.specs.Answers.{answerJudge, answerObserved};
 ghost use Rattle.questions.specs.Observations.{answerObservations};
-ghost use Rattle.questions.specs.Verdicts.{answerVerdict, nextIn, answerNext, answerCheck};
-ghost use Rattle.questions.specs.Searching.{Searchable, Finds};
+ghost use Rattle.questions.specs.Verdicts.{answerVerdict, answerNext, answerCheck};
+ghost use Rattle.questions.specs.Note.{whole, front, answerNote};
 
 // The answer to question 1.
 pub enum Judgement {
@@ -28,26 +25,17 @@ pub enum Judgement {
     Good { events: u16, threads: u32 },
 }
 
-// The answer to question 4: a reported pair, or that there is none.
-pub enum Next {
-    Refused(Refusal),
-    Race { lower: u16, higher: u16 },
-    NoRace,
-}
-
 // Question 1: is the file good, with how many events and threads?
 pub fn judge(file: &[u8]) -> Judgement
     ensures { λ r. ⌜ r ≡ answerJudge (now (file .entry)) ⌝ }
 {
-    match judging::judge(file) {
-        File::Refused(r) => Judgement::Refused(r),
-        File::Good(t) => {
-            let n = t.events;
-            Judgement::Good {
-                events: n as u16,
-                threads: counting::thread_count(format::events(file, t)),
-            }
-        }
+    let mut rows = [0u16; table::ROOM];
+    match opening::table_of(file, &mut rows) {
+        Opened::Refused(r) => Judgement::Refused(r),
+        Opened::Words(n) => Judgement::Good {
+            events: table::count(&rows[..n]) as u16,
+            threads: counting::threads(&rows[..n]),
+        },
     }
 }
 
@@ -55,9 +43,10 @@ pub fn judge(file: &[u8]) -> Judgement
 pub fn observed_write(file: &[u8], k: u16) -> Observed
     ensures { λ r. ⌜ r ≡ answerObserved (now (file .entry)) k ⌝ }
 {
-    match judging::judge(file) {
-        File::Refused(r) => Observed::Refused(r),
-        File::Good(t) => observing::observed_in(format::events(file, t), k),
+    let mut rows = [0u16; table::ROOM];
+    match opening::table_of(file, &mut rows) {
+        Opened::Refused(r) => Observed::Refused(r),
+        Opened::Words(n) => observing::observed_in(&rows[..n], k),
     }
 }
 
@@ -65,9 +54,10 @@ pub fn observed_write(file: &[u8], k: u16) -> Observed
 pub fn observed_writes(file: &[u8], list: &mut [u16]) -> Observations
     ensures { λ r. ⌜ (r, now (list .exit)) ≡ answerObservations (now (file .entry)) (now (list .entry)) ⌝ }
 {
-    match judging::judge(file) {
-        File::Refused(r) => Observations::Refused(r),
-        File::Good(t) => observing::observed_writes_in(format::events(file, t), list),
+    let mut rows = [0u16; table::ROOM];
+    match opening::table_of(file, &mut rows) {
+        Opened::Refused(r) => Observations::Refused(r),
+        Opened::Words(n) => observing::observations_in(&rows[..n], list),
     }
 }
 
@@ -75,51 +65,21 @@ pub fn observed_writes(file: &[u8], list: &mut [u16]) -> Observations
 pub fn verdict(file: &[u8], a: u16, b: u16, list: &mut [u16], area: &mut [u8]) -> Finding
     ensures { λ r. ⌜ (r, now (list .exit), now (area .exit)) ≡ answerVerdict (now (file .entry)) a b (now (list .entry)) (now (area .entry)) ⌝ }
 {
-    match judging::judge(file) {
-        File::Refused(r) => Finding::Refused(r),
-        File::Good(t) => verdicts::verdict_in(format::events(file, t), a, b, list, area),
+    let mut rows = [0u16; table::ROOM];
+    match opening::table_of(file, &mut rows) {
+        Opened::Refused(r) => Finding::Refused(r),
+        Opened::Words(n) => verdicts::verdict_in(&rows[..n], a, b, list, area),
     }
-}
-
-// The first race after (a, b), with a work area of just the bytes that it needs.
-fn find_next(ev: &[u8], a: u16, b: u16, area: &mut [u8]) -> Next
-    requires { ⌜ Searchable (trace (now ev)) (now area) ⌝ }
-    ensures { λ r. ⌜ Finds (nextRace (trace (now (ev .entry))) a b) (now (area .exit)) r ⌝ }
-{
-    bits::clear(area);
-    let mut previous = [0u16; Trace::PLACES];
-    let mut observed = [0u16; Trace::PLACES];
-    let mut released = [0u16; Trace::PLACES];
-    links::build(ev, &mut previous, &mut observed, &mut released);
-    let mut list = [0u16; Trace::MAX_EVENTS];
-    match listing::next_race(ev, &previous, &observed, &released, a, b, &mut list, area) {
-        Listed::NoMore => Next::NoRace,
-        Listed::Race {
-            lower,
-            higher,
-            length: _,
-        } => Next::Race { lower, higher },
-    }
-}
-
-// Refusal 12, and the first race after (a, b).
-fn next_in(ev: &[u8], a: u16, b: u16, area: &mut [u8]) -> Next
-    requires { ⌜ Good (trace (now ev)) ⌝ }
-    ensures { λ r. ⌜ (r, now (area .exit)) ≡ nextIn none (trace (now (ev .entry))) a b (now (area .entry)) ⌝ }
-{
-    if !Trace::area_suffices(area.len()) {
-        return Next::Refused(Refusal::AreaShort);
-    }
-    find_next(ev, a, b, &mut area[..Trace::AREA_BYTES])
 }
 
 // Question 4: which is the first race after (a, b), by lower event, then by higher?
 pub fn next_race(file: &[u8], a: u16, b: u16, area: &mut [u8]) -> Next
     ensures { λ r. ⌜ (r, now (area .exit)) ≡ answerNext (now (file .entry)) a b (now (area .entry)) ⌝ }
 {
-    match judging::judge(file) {
-        File::Refused(r) => Next::Refused(r),
-        File::Good(t) => next_in(format::events(file, t), a, b, area),
+    let mut rows = [0u16; table::ROOM];
+    match opening::table_of(file, &mut rows) {
+        Opened::Refused(r) => Next::Refused(r),
+        Opened::Words(n) => verdicts::next_in(&rows[..n], a, b, area),
     }
 }
 
@@ -127,8 +87,34 @@ pub fn next_race(file: &[u8], a: u16, b: u16, area: &mut [u8]) -> Next
 pub fn check_reordering(file: &[u8], a: u16, b: u16, list: &[u16]) -> Check
     ensures { λ r. ⌜ r ≡ answerCheck (now (file .entry)) a b (now (list .entry)) ⌝ }
 {
+    let mut rows = [0u16; table::ROOM];
+    match opening::table_of(file, &mut rows) {
+        Opened::Refused(r) => Check::Refused(r),
+        Opened::Words(n) => checking::check_in(&rows[..n], a, b, list),
+    }
+}
+
+// The first m bytes of a slice.
+fn front<'a>(s: &'a [u8], m: usize) -> &'a [u8]
+    requires { ⌜ m ≤ length (now s) ⌝ }
+    ensures { λ r. ⌜ whole r ≡ front m (s .entry) ⌝ }
+{
+    &s[..m]
+}
+
+// Question 6: the preamble, or the operator's own note where that is empty; for a refused file the empty part at its front.
+pub fn note<'a>(file: &'a [u8], operator: &'a [u8]) -> &'a [u8]
+    ensures { λ r. ⌜ whole r ≡ answerNote (file .entry) (operator .entry) ⌝ }
+{
     match judging::judge(file) {
-        File::Refused(r) => Check::Refused(r),
-        File::Good(t) => checking::check_in(format::events(file, t), a, b, list),
+        File::Refused(_) => front(file, 0),
+        File::Good(t) => {
+            let start = t.start;
+            if start == 0 {
+                operator
+            } else {
+                front(file, start)
+            }
+        }
     }
 }

@@ -6,15 +6,15 @@ use Rattle.model.specs.Trace.{does}
 use Rattle.model.specs.Lists.{listed, is, but, threads}
 use Rattle.model.specs.Observed.{observed}
 use Rattle.model.specs.Cone.{givesBack, matching}
-use Rattle.model.specs.Check.{isValid, isFree}
-use Rattle.model.specs.Refusals.{eventRefusal, refusalIn, refusal}
-use Rattle.model.specs.Rounds.{isBrought, rounds, isEarlier, isRooted, isObserved, isExempt, isClosing, brings, cone}
-use Rattle.model.specs.Grid.{sawOther, sawNone, readStep, writeStep, lockStep, mayStep, stepAt, path}
-use Rattle.model.specs.Decision.{shownFor, isAccess, isConflicting, raceOn, races}
-use Rattle.preambles.specs.Readable.{isReadable}
+use Rattle.decision.specs.Check.{isValid, isFree}
+use Rattle.decision.specs.Refusals.{eventTests}
+use Rattle.decision.specs.Rounds.{isBrought, rounds, isEarlier, isRooted, isObserved, isExempt, isClosing, brings, cone}
+use Rattle.decision.specs.Grid.{sawOther, sawNone, readStep, writeStep, lockStep, mayStep, stepAt, path}
+use Rattle.decision.specs.Decision.{shownFor, isAccess, isConflicting, conflictingPairs, races}
+use Rattle.format.specs.Readable.{isReadable}
 use Rattle.format.specs.Bytes.{eventsFrom, traceOf}
 use Rattle.format.specs.Layout.{distance, count, start, preamble, eventPart, events, isMarked, isPointed, layoutRefusal}
-use Rattle.judging.specs.Judged.{fileRefusal}
+use Rattle.judging.specs.Judged.{eventRefusal, refusalIn, fileRefusal}
 use Rattle.appending.specs.Decimal.{decimal}
 use Rattle.lines.specs.Lines.{eventsLine, raceHead, raceLine, racesLine}
 use Rattle.report.specs.Report.{report}
@@ -28,9 +28,9 @@ qBytes =
 
 -- "events 8 threads 2", "race 1 8 witness 5 6 7" and "races 1"
 pub report-of-q : report qBytes ≡ eventsLine 8 2 ++ (raceLine 1 8 (5 ∷ 6 ∷ 7 ∷ []) ++ racesLine 1)
-unfolding does listed is but threads observed givesBack matching isValid isFree eventRefusal refusalIn refusal
+unfolding does listed is but threads observed givesBack matching isValid isFree eventTests eventRefusal refusalIn
     isBrought rounds isEarlier isRooted isObserved isExempt isClosing brings cone sawOther sawNone readStep writeStep lockStep mayStep stepAt path
-    shownFor isAccess isConflicting raceOn races
+    shownFor isAccess isConflicting conflictingPairs races
     eventsFrom traceOf distance count start preamble isReadable eventPart events isMarked isPointed layoutRefusal fileRefusal
     decimal eventsLine raceHead raceLine racesLine report
 report-of-q = refl

@@ -1,68 +1,151 @@
-// The nightly report of a file: its first line, and the whole of it.
-use blocks::LINE_BYTES;
-use blocks::Place;
-use blocks::Written;
-use format::File;
-use limits::Trace;
-ghost use Rattle.format.specs.Bytes.{trace};
-ghost use Rattle.report.specs.Whole.{Beginning, Begins, Starting, Finishes, Reports};
+// The nightly report of a file, in a lent buffer: a block of lines at a time, as many as surely fit, or the whole of it.
+use limits::Recording;
+use opening::Opened;
+use races::Handed;
+ghost use Prim.Native.Nat.{_≤_};
+ghost use mathlib.Core.Path.{_≡_};
+ghost use Rattle.table.specs.Table.{trace, Linked};
+ghost use Rattle.appending.specs.Appended.{Appends};
+ghost use Rattle.lines.specs.Room.{lineBytes, Room};
+ghost use Rattle.report.specs.Rest.{atStart};
+ghost use Rattle.report.specs.Writing.{Writing, Advances, Fills};
+ghost use Rattle.report.specs.Report.{firstLine};
+ghost use Rattle.report.specs.Whole.{Begins, Starting, Finishes, Reports};
 
-// After the first line: the bytes in use; the whole report of a refused file, or where the events of a good one stand.
+// The room in which every line fits.
+const LINE_BYTES: usize = 4096;
+
+// After the first line: the bytes in use; for a good file also how many words its table has.
 pub enum Begun {
     Refused(usize),
-    Good(usize, Trace),
+    Good(usize, usize),
 }
 
-// Judges a file and writes the first line of its report; for a good one the tables of its links are filled in too.
-pub fn begin(
-    file: &[u8],
-    previous: &mut [u16],
-    observed: &mut [u16],
-    released: &mut [u16],
-    out: &mut [u8],
-) -> Begun
-    requires { ⌜ Beginning (now previous) (now observed) (now released) (now out) ⌝ }
-    ensures { λ r. ⌜ Begins (now (file .entry)) (now (previous .entry)) (now (previous .exit)) (now (observed .entry)) (now (observed .exit)) (now (released .entry)) (now (released .exit)) (now (out .entry)) (now (out .exit)) r ⌝ }
+// A position in the report of a good file: the two numbers after which its next race comes, and how many races stand before it.
+pub struct Position {
+    pub lower: u16,
+    pub higher: u16,
+    pub count: u32,
+}
+
+impl Position {
+    // In front of the first race.
+    pub fn start() -> Position
+        ensures { λ r. ⌜ r ≡ atStart ⌝ }
+    {
+        Position {
+            lower: 0,
+            higher: 0,
+            count: 0,
+        }
+    }
+}
+
+// After some lines: the bytes in use, and the position to go on from, or that the report has ended.
+pub enum Progress {
+    Ended(usize),
+    More(usize, Position),
+}
+
+// The first line of a good file's report.
+fn first_line(table: &[u16], out: &mut [u8]) -> usize
+    requires { ⌜ Linked (now table) × Room 0 (now out) ⌝ }
+    ensures { λ r. ⌜ Appends (firstLine (trace (now (table .entry)))) 0 (now (out .entry)) (now (out .exit)) r ⌝ }
+    ensures { λ r. ⌜ r ≤ lineBytes ⌝ }
 {
-    match judging::judge(file) {
-        File::Refused(r) => Begun::Refused(lines::refused(out, 0, r)),
-        File::Good(t) => {
-            let n = t.events;
-            let ev = format::events(file, t);
-            links::build(ev, previous, observed, released);
-            let threads = counting::thread_count(ev);
-            Begun::Good(lines::events(out, 0, n as u16, threads), t)
+    let events = table::count(table);
+    let threads = counting::threads(table);
+    lines::events(out, 0, events as u16, threads)
+}
+
+// Judges a file and writes the first line of its report, which is all of a refused one's; the table of a good one is put in the front of the
+// lent area.
+pub fn begin(file: &[u8], rows: &mut [u16; table::ROOM], out: &mut [u8]) -> Begun
+    requires { ⌜ Room 0 (now out) ⌝ }
+    ensures { λ r. ⌜ Begins (now (file .entry)) (now (rows .entry)) (now (rows .exit)) (now (out .entry)) (now (out .exit)) r ⌝ }
+{
+    match opening::table_of(file, rows) {
+        Opened::Refused(r) => Begun::Refused(lines::refused(out, 0, r)),
+        Opened::Words(n) => {
+            let area: &[u16] = rows;
+            Begun::Good(first_line(&area[..n], out), n)
+        }
+    }
+}
+
+// The next race's line, or the last line. The race and its witness come from one search.
+fn line(
+    table: &[u16],
+    p: Position,
+    list: &mut [u16],
+    area: &mut [u8],
+    out: &mut [u8],
+    at: usize,
+) -> Progress
+    requires { ⌜ Writing (now table) p (now list) (now area) at (now out) ⌝ }
+    ensures { λ r. ⌜ Advances (trace (now (table .entry))) p (now (list .entry)) (now (list .exit)) (now (area .entry)) (now (area .exit)) at (now (out .entry)) (now (out .exit)) r ⌝ }
+{
+    let a = p.lower;
+    let b = p.higher;
+    let count = p.count;
+    match races::next_race(table, a, b, list, area) {
+        Handed::NoMore => Progress::Ended(lines::races(out, at, count)),
+        Handed::Race {
+            lower,
+            higher,
+            length,
+        } => {
+            let bytes = lines::race(out, at, lower, higher, list, length);
+            Progress::More(
+                bytes,
+                Position {
+                    lower,
+                    higher,
+                    count: count + 1,
+                },
+            )
+        }
+    }
+}
+
+// The lines from a position on, as many as surely fit.
+pub fn block(
+    table: &[u16],
+    p: Position,
+    list: &mut [u16],
+    area: &mut [u8],
+    out: &mut [u8],
+    at: usize,
+) -> Progress
+    requires { ⌜ Writing (now table) p (now list) (now area) at (now out) ⌝ }
+    ensures { λ r. ⌜ Fills (trace (now (table .entry))) p (now (list .entry)) (now (list .exit)) (now (area .entry)) (now (area .exit)) at (now (out .entry)) (now (out .exit)) r ⌝ }
+{
+    let mut position = p;
+    let mut bytes = at;
+    loop {
+        match line(table, position, list, area, out, bytes) {
+            Progress::Ended(n) => return Progress::Ended(n),
+            Progress::More(n, next) => {
+                if out.len() - n < LINE_BYTES {
+                    return Progress::More(n, next);
+                }
+                position = next;
+                bytes = n;
+            }
         }
     }
 }
 
 // The rest of a good file's report, behind its first line; 0 where it might not fit.
-fn finish(
-    ev: &[u8],
-    previous: &[u16],
-    observed: &[u16],
-    released: &[u16],
-    out: &mut [u8],
-    at: usize,
-) -> usize
-    requires { ⌜ Starting (trace (now ev)) (now previous) (now observed) (now released) at (now out) ⌝ }
-    ensures { λ r. ⌜ Finishes (trace (now (ev .entry))) at (now (out .entry)) (now (out .exit)) r ⌝ }
+fn finish(table: &[u16], out: &mut [u8], at: usize) -> usize
+    requires { ⌜ Starting (now table) at (now out) ⌝ }
+    ensures { λ r. ⌜ Finishes (trace (now (table .entry))) at (now (out .entry)) (now (out .exit)) r ⌝ }
 {
-    let mut list = [0u16; Trace::MAX_EVENTS];
-    let mut area = [0u8; Trace::AREA_BYTES];
-    match blocks::block(
-        ev,
-        previous,
-        observed,
-        released,
-        Place::start(),
-        &mut list,
-        &mut area,
-        out,
-        at,
-    ) {
-        Written::Ended(n) => n,
-        Written::More(_, _) => 0,
+    let mut list = [0u16; Recording::MAX_EVENTS];
+    let mut area = [0u8; Recording::AREA_BYTES];
+    match block(table, Position::start(), &mut list, &mut area, out, at) {
+        Progress::Ended(n) => n,
+        Progress::More(_, _) => 0,
     }
 }
 
@@ -74,23 +157,14 @@ pub extern "C" fn tarungkis_report(file: &[u8], out: &mut [u8]) -> usize
     if out.len() < LINE_BYTES {
         return 0;
     }
-    let mut previous = [0u16; Trace::PLACES];
-    let mut observed = [0u16; Trace::PLACES];
-    let mut released = [0u16; Trace::PLACES];
-    match begin(file, &mut previous, &mut observed, &mut released, out) {
+    let mut rows = [0u16; table::ROOM];
+    match begin(file, &mut rows, out) {
         Begun::Refused(n) => n,
-        Begun::Good(n, t) => {
+        Begun::Good(n, words) => {
             if out.len() - n < LINE_BYTES {
                 return 0;
             }
-            finish(
-                format::events(file, t),
-                &previous,
-                &observed,
-                &released,
-                out,
-                n,
-            )
+            finish(&rows[..words], out, n)
         }
     }
 }

@@ -12,8 +12,8 @@ use Rattle.model.specs.Trace.{Trace, Valid, write, acquire, release, threadOf, 
 use Rattle.model.specs.Lists.{listed}
 use Rattle.model.specs.Observed.{lastWrite}
 use Rattle.model.specs.Sections.{isLast}
-use Rattle.model.specs.Grid.{pendingPass, keeper, passed}
-use Rattle.model.proofs.Merges.{passed-suc}
+use Rattle.decision.specs.Grid.{pendingPass, keeper, passed}
+use Rattle.decision.proofs.Merges.{passed-suc}
 use Rattle.steps.specs.Steps.{AllValid, fits}
 
 pub valid-at : {t : Trace} {l : List ℕ} → AllValid t l → (i k : ℕ) → i < length l → k ≡ getD l i 0 → Valid t k
@@ -65,8 +65,8 @@ module _ (t : Trace) (x : ℕ) {l : List ℕ} {n i : ℕ} (s : Back (lastWrite t
   last-end h = sym (back-end s h)
 
   module _ (more : 0 < i) (w : n ≤ length l) (k : ℕ) (e : k ≡ getD l (i - 1) 0) (b : Bool) (d : b ≡ does t write x k) where
-    pub last-here : b ≡ true → getD l (i - 1) 0 ≡ lastWrite t x (passed l n)
-    last-here z = sym (now-back s more w ∙ rw (does-at t write x e d z))
+    pub last-here : b ≡ true → k ≡ lastWrite t x (passed l n)
+    last-here z = e ∙ sym (now-back s more w ∙ rw (does-at t write x e d z))
 
     pub last-more : b ≡ false → Back (lastWrite t x) l n (i - 1)
     last-more z = step-back s more w (rw (does-at t write x e d z))
@@ -78,13 +78,13 @@ module _ (k : ℕ) {l : List ℕ} {n i : ℕ} (s : Back (listed k) l n i) where
   among-end h = sym (back-end s h)
 
   module _ (more : 0 < i) (w : n ≤ length l) where
-    pub among-here : getD l (i - 1) 0 ≡ k → true ≡ listed k (passed l n)
+    pub among-here : (y : ℕ) → y ≡ getD l (i - 1) 0 → y ≡ k → true ≡ listed k (passed l n)
     unfolding listed
-    among-here e = sym (now-back s more w ∙ rw (eq-eqb k (getD l (i - 1) 0) (sym e)))
+    among-here y ey e = sym (now-back s more w ∙ rw (eq-eqb k (getD l (i - 1) 0) (sym e ∙ ey)))
 
-    pub among-more : (getD l (i - 1) 0 ≡ k → ⊥) → Back (listed k) l n (i - 1)
+    pub among-more : (y : ℕ) → y ≡ getD l (i - 1) 0 → (y ≡ k → ⊥) → Back (listed k) l n (i - 1)
     unfolding listed
-    among-more ne = step-back s more w (rw (ne-eqb k (getD l (i - 1) 0) (λ e. ne (sym e))))
+    among-more y ey ne = step-back s more w (rw (ne-eqb k (getD l (i - 1) 0) (λ e. ne (ey ∙ sym e))))
 
 -- ---- on over what is left
 

@@ -12,25 +12,23 @@ use Rattle.model.specs.Trace.{Trace, Valid, read, write, acquire, release, thre
 use Rattle.model.specs.Lists.{listed, is, but}
 use Rattle.model.specs.Observed.{lastWrite, observed}
 use Rattle.model.specs.Sections.{isLast}
-use Rattle.model.specs.Check.{isSeen}
-use Rattle.model.specs.Grid.{sawOther, sawNone, pendingPass, readStep, writeStep, keeper, lockStep, mayStep, passed, stepAt}
+use Rattle.decision.specs.Check.{isSeen}
+use Rattle.decision.specs.Grid.{sawOther, sawNone, pendingPass, readStep, writeStep, keeper, lockStep, mayStep, passed, stepAt}
 use Rattle.model.proofs.Tests.{does-true}
 use Rattle.model.proofs.Histories.{observed-range}
-use Rattle.model.proofs.GridSteps.{may-read, may-write, may-acquire}
-use Rattle.links.specs.Links.{Observed, Released}
-use Rattle.links.proofs.LinkFacts.{reads-observed, released-last}
+use Rattle.decision.proofs.GridSteps.{may-read, may-write, may-acquire}
+use Rattle.table.specs.Links.{observedBy, releaseOf}
+use Rattle.table.proofs.LinkFacts.{reads-observed, last-release}
+use Rattle.table.specs.Table.{trace}
 use Rattle.steps.specs.Steps.{Steps, fits}
 use Rattle.steps.proofs.ScanLaws.{valid-at}
 
 -- ---- what a read observed
 
-module _ {t : Trace} {obs : List ℕ} (table : Observed t obs) {k : ℕ} (v : Valid t k) where
-  pub seen-is : kindOf t k ≡ read → getD obs k 0 ≡ observed t k
-  seen-is r = table .is k (v .bounded) ∙ reads-observed t k r
-
-  module _ (r : kindOf t k ≡ read) (o : ℕ) (e : o ≡ getD obs k 0) where
+module _ {t : Trace} {k : ℕ} (v : Valid t k) where
+  module _ (r : kindOf t k ≡ read) (o : ℕ) (e : o ≡ observedBy t k) where
     is-observed : o ≡ observed t k
-    is-observed = e ∙ seen-is r
+    is-observed = e ∙ reads-observed t k r
 
     pub saw-start : (m : ℕ) (b : Bool) → o ≡ 0 → false ≡ sawOther t m b k
     unfolding sawOther
@@ -73,10 +71,10 @@ module _ (t : Trace) (x k : ℕ) (b : Bool) (d : b ≡ does t read x k) where
     pub fits-side : (m : ℕ) (side : Bool) (r : Bool) → r ≡ sawOther t m side k → r ≡ fits t (sawOther t m side) x k
     fits-side m side r g = g ∙ sym (fits-read (sawOther t m side) z)
 
-    pub fits-none : {obs : List ℕ} → Observed t obs → Valid t k → (h : List ℕ) (r : Bool) → r ≡ listed (getD obs k 0) h → not r ≡ fits t (sawNone t h) x k
+    pub fits-none : (o : ℕ) → o ≡ observedBy t k → (h : List ℕ) (r : Bool) → r ≡ listed o h → not r ≡ fits t (sawNone t h) x k
     unfolding sawNone
-    fits-none table v h r g =
-        ap not g ∙ ap (λ (o : ℕ). not (listed o h)) (seen-is table v (read-kind z)) ∙ sym (fits-read (sawNone t h) z)
+    fits-none o e h r g =
+        ap not g ∙ ap (λ (o : ℕ). not (listed o h)) (e ∙ reads-observed t k (read-kind z)) ∙ sym (fits-read (sawNone t h) z)
 
 -- ---- the latest event on a lock
 
@@ -87,9 +85,9 @@ module _ (t : Trace) (x k : ℕ) (b : Bool) (d : b ≡ does t acquire x k) where
   pub on-release : b ≡ false → (r : Bool) → r ≡ does t release x k → r ≡ does t acquire x k || does t release x k
   on-release z r g = rw (← d, z) g
 
-module _ {t : Trace} {rel : List ℕ} (table : Released t rel) {k : ℕ} (v : Valid t k) (r : ℕ) (e : r ≡ getD rel k 0) where
+module _ {t : Trace} {k : ℕ} (v : Valid t k) (r : ℕ) (e : r ≡ releaseOf t k) where
   last-is : isLast t k ≡ eqb r k
-  last-is = released-last t table v ∙ ap (λ (j : ℕ). eqb j k) (sym e)
+  last-is = last-release t k (v .positive) ∙ ap (λ (j : ℕ). eqb j k) (sym e)
 
   pub left-nobody : r ≡ k → 0 ≡ cond (isLast t k) 0 (suc (threadOf t k))
   left-nobody z = rw (last-is, eq-eqb r k z)
@@ -104,10 +102,10 @@ module _ (t : Trace) (m : ℕ) (side : Bool) (ho : List ℕ) (k : ℕ) (b : Bool
   unfolding readStep
   read-free z = rw (← d, not-true b z)
 
-  pub read-last : not b ≡ false → {obs : List ℕ} → Observed t obs → Valid t k → kindOf t k ≡ read → (x : ℕ) → x ≡ objectOf t k → (r : ℕ) → r ≡ lastWrite t x ho
-      → eqb r (getD obs k 0) ≡ readStep t m side ho k
+  pub read-last : not b ≡ false → kindOf t k ≡ read → (x : ℕ) → x ≡ objectOf t k → (r : ℕ) → r ≡ lastWrite t x ho → (o : ℕ) → o ≡ observedBy t k
+      → eqb r o ≡ readStep t m side ho k
   unfolding readStep isSeen
-  read-last z table v kind x ex r g = rw (← d, not-false b z, seen-is table v kind, g, ex)
+  read-last z kind x ex r g o e = let q = e ∙ reads-observed t k kind in rw (← d, not-false b z, q, g, ex)
 
 module _ (t : Trace) (m : ℕ) (side : Bool) (ho rs ro : List ℕ) (k x : ℕ) (ex : x ≡ objectOf t k) (b : Bool) (d : b ≡ pendingPass t x (sawOther t m (not side)) ro) where
   is-write : b && pendingPass t x (sawNone t ho) rs ≡ writeStep t m side ho rs ro k
@@ -137,29 +135,29 @@ module _ (t : Trace) (hs ho : List ℕ) (k x : ℕ) (ex : x ≡ objectOf t k) (o
 
 -- ---- may_step
 
-module _ {t : Trace} {obs own other : List ℕ} {i j : ℕ} (s : Steps t obs own other i j) (k : ℕ) (e : k ≡ getD own i 0) where
-  pub step-valid : Valid t k
+module _ {table own other : List ℕ} {i j : ℕ} (s : Steps table own other i j) (k : ℕ) (e : k ≡ getD own i 0) where
+  pub step-valid : Valid (trace table) k
   step-valid = valid-at (s .own-valid) i k (s .own-in) e
 
-  step-is : (m : ℕ) (b : Bool) → mayStep t m b (passed own i) (passed other j) (drop (i + 1) own) (drop j other) k ≡ stepAt t m b own other i j
+  step-is : (m : ℕ) (b : Bool) → mayStep (trace table) m b (passed own i) (passed other j) (drop (i + 1) own) (drop j other) k ≡ stepAt (trace table) m b own other i j
   unfolding stepAt
   step-is m b = rw (lt-ltb _ _ (s .own-in), e, add-one i)
 
-  module _ (kind : ℕ) (ek : kind ≡ kindOf t k) where
-    step-kind : (c : ℕ) → kind ≡ c → kindOf t k ≡ c
+  module _ (kind : ℕ) (ek : kind ≡ kindOf (trace table) k) where
+    step-kind : (c : ℕ) → kind ≡ c → kindOf (trace table) k ≡ c
     step-kind c h = sym ek ∙ h
 
     module _ (m : ℕ) (b : Bool) where
-      pub step-read : kind ≡ read → (r : Bool) → r ≡ readStep t m b (passed other j) k → r ≡ stepAt t m b own other i j
-      step-read h r g = g ∙ sym (may-read t m b _ _ _ _ k (step-kind read h)) ∙ step-is m b
+      pub step-read : kind ≡ read → (r : Bool) → r ≡ readStep (trace table) m b (passed other j) k → r ≡ stepAt (trace table) m b own other i j
+      step-read h r g = g ∙ sym (may-read (trace table) m b _ _ _ _ k (step-kind read h)) ∙ step-is m b
 
-      pub step-write : kind ≡ write → (r : Bool) → r ≡ writeStep t m b (passed other j) (drop (i + 1) own) (drop j other) k → r ≡ stepAt t m b own other i j
-      step-write h r g = g ∙ sym (may-write t m b _ _ _ _ k (step-kind write h)) ∙ step-is m b
+      pub step-write : kind ≡ write → (r : Bool) → r ≡ writeStep (trace table) m b (passed other j) (drop (i + 1) own) (drop j other) k → r ≡ stepAt (trace table) m b own other i j
+      step-write h r g = g ∙ sym (may-write (trace table) m b _ _ _ _ k (step-kind write h)) ∙ step-is m b
 
-      pub step-lock : kind ≡ acquire → (r : Bool) → r ≡ lockStep t (passed own i) (passed other j) k → r ≡ stepAt t m b own other i j
-      step-lock h r g = g ∙ sym (may-acquire t m b _ _ _ _ k (step-kind acquire h)) ∙ step-is m b
+      pub step-lock : kind ≡ acquire → (r : Bool) → r ≡ lockStep (trace table) (passed own i) (passed other j) k → r ≡ stepAt (trace table) m b own other i j
+      step-lock h r g = g ∙ sym (may-acquire (trace table) m b _ _ _ _ k (step-kind acquire h)) ∙ step-is m b
 
-      pub step-none : (kind ≡ read → ⊥) → (kind ≡ write → ⊥) → (kind ≡ acquire → ⊥) → true ≡ stepAt t m b own other i j
+      pub step-none : (kind ≡ read → ⊥) → (kind ≡ write → ⊥) → (kind ≡ acquire → ⊥) → true ≡ stepAt (trace table) m b own other i j
       unfolding mayStep
       step-none f g h =
-          rw (ne-eqb (kindOf t k) read (λ z. f (ek ∙ z)), ne-eqb (kindOf t k) write (λ z. g (ek ∙ z)), ne-eqb (kindOf t k) acquire (λ z. h (ek ∙ z))) at (step-is m b)
+          rw (ne-eqb (kindOf (trace table) k) read (λ z. f (ek ∙ z)), ne-eqb (kindOf (trace table) k) write (λ z. g (ek ∙ z)), ne-eqb (kindOf (trace table) k) acquire (λ z. h (ek ∙ z))) at (step-is m b)

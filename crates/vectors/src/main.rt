@@ -12,7 +12,7 @@ ghost use lib.ListN.{length};
 // The most lines and blocks that are read, so that the program ends.
 const TURNS: usize = 1000000;
 
-// The question that a line asks, by its number; 22 is question 2 for all events at once. (The '?' counts as a digit 0.)
+// The question that a line asks, by its number; 22 is question 2 for all events at once, 21 the same with the list as numbers. (The '?' counts as a digit 0.)
 fn ask(line: &[u8], file: &[u8]) {
     let mut numbers = [0u16; 603];
     let n = text::numbers(line, &mut numbers);
@@ -25,6 +25,7 @@ fn ask(line: &[u8], file: &[u8]) {
         4 => answers::ask_next(file, a, b, text::decimal(line)),
         5 => answers::check(file, a, b, &numbers[start..n]),
         6 => answers::ask_note(file, line),
+        21 => answers::ask_entries(file, a),
         22 => answers::ask_observed_writes(file, a),
         _ => {}
     }

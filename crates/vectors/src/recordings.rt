@@ -1,7 +1,7 @@
 // What all questions say to a recording. A refused one gives its refusal to each; of a good one: the observed writes, the note, the races
 // with their witnesses and, where it is short, the verdict on each pair.
+use limits::Recording;
 use limits::Refusal;
-use limits::Trace;
 use questions::Finding;
 use questions::Judgement;
 use questions::Next;
@@ -56,7 +56,7 @@ fn race(file: &[u8], a: u16, b: u16, n: u64) {
     }
     text::pair(a, b);
     byte(b':');
-    let mut list = [answers::ENTRY; Trace::MAX_EVENTS];
+    let mut list = [answers::ENTRY; Recording::MAX_EVENTS];
     match answers::verdict(file, a, b, &mut list) {
         Finding::Refused(r) => refused(r),
         Finding::NotReported => byte(b'-'),
@@ -97,7 +97,7 @@ fn races(file: &[u8]) {
 
 // The verdict in one character.
 fn mark(file: &[u8], a: u16, b: u16) {
-    let mut list = [answers::ENTRY; Trace::MAX_EVENTS];
+    let mut list = [answers::ENTRY; Recording::MAX_EVENTS];
     match answers::verdict(file, a, b, &mut list) {
         Finding::Refused(r) => {
             if r.number() == 11 {

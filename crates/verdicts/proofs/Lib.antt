@@ -1,3 +1,3 @@
 -- The ways through the code
-pub mod AreaLaws
 pub mod VerdictLaws
+pub mod NextLaws

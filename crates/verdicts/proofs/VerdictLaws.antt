@@ -1,75 +1,91 @@
--- The ways through question 3 on events.
-use Prim.Native.Nat.{ℕ, zero, _≤_, _<_}
+-- The work area, and the ways through question 3 on a table.
+use Prim.Native.Nat.{ℕ, _≤_, _<_}
 use native.Mathlib.Omega.{arith}
-use mathlib.Core.Path.{_≡_, refl, sym, _∙_, ap}
+use mathlib.Core.Path.{_≡_, sym, _∙_, ap}
 use mathlib.Core.Bool.{Bool, true, false, not}
-use mathlib.Core.Option.{Option, none, some}
+use mathlib.Core.Option.{Option, none}
 use mathlib.Core.List.{List, _++_}
-use lib.ListN.{length, take, drop, replicate}
-use borrow.Author.Tests.{not-true, not-false, le-leb, lt-leb}
+use lib.ListN.{length, take, drop, replicate, length-replicate}
+use borrow.Author.Tests.{not-true, not-false, le-ltb, lt-ltb}
 use Rattle.model.specs.Trace.{Trace}
-use Rattle.model.specs.Good.{Good}
-use Rattle.model.specs.Decision.{witness, isConflicting}
+use Rattle.decision.specs.Decision.{witness, isConflicting}
 use Rattle.limits.specs.Limits.{areaBytes, isAreaSize}
 use Rattle.limits.specs.declared.Refusal.the-variants.{ListShort, NotConflicting, AreaShort}
-use Rattle.links.specs.Links.{Linked}
-use Rattle.pair.specs.Pair.{Asked, Shows}
-use Rattle.pair.proofs.ShownLaws.{shown-none, shown-some}
-use Rattle.pair.specs.declared.Shown.{Shown}
-use Rattle.pair.specs.declared.Shown.the-variants.{Absent, Length}
-use Rattle.verdicts.specs.Verdict.{verdictRefusal, verdictIn}
-use Rattle.verdicts.specs.Deciding.{Askable, Decidable, finding, Decides}
+use Rattle.table.specs.Table.{trace, Linked}
+use Rattle.races.specs.Witness.{WitnessRoom, Shows}
+use Rattle.races.proofs.AnswerLaws.{witnessed-none, witnessed-some}
+use Rattle.races.specs.declared.Witnessed.{Witnessed}
+use Rattle.races.specs.declared.Witnessed.the-variants.{Absent, Length}
+use Rattle.verdicts.specs.Verdict.{finding, verdictIn, cleared}
+use Rattle.verdicts.specs.Deciding.{Askable, Decidable, Decides}
 use Rattle.verdicts.specs.declared.Finding.{Finding}
 use Rattle.verdicts.specs.declared.Finding.the-variants.{Refused, Reported, NotReported}
-use Rattle.verdicts.proofs.AreaLaws.{front-bytes, area-long, whole-area, zero-area, ready}
+use lib.Seq.{length-take-le}
+use Rattle.limits.proofs.LimitLaws.{area-true}
+use Rattle.bits.specs.Marks.{Clear}
 
--- ---- on a cleared work area with the links built
+-- its front has just the bytes that are needed
+pub front-bytes : (area : List ℕ) → areaBytes ≤ length area → areaBytes ≡ length (take areaBytes area)
+front-bytes area h = sym (length-take-le areaBytes area h)
 
-module _ (t : Trace) (g : Good t) (area : List ℕ) (n : length area ≡ areaBytes) (area₁ : List ℕ) (c : area₁ ≡ replicate (length area) 0) where
-  pub pair-asked : {prev obs rel : List ℕ} → Linked t prev obs rel → (list : List ℕ) (a b : ℕ) → Askable t a b list → Asked t a b prev obs rel list area₁
-  pair-asked k list a b d = record { ready = ready area n area₁ c t g k list (d .room); conflicting = d .conflicting }
+pub area-long : (area : List ℕ) (b : Bool) → b ≡ isAreaSize (length area) → not b ≡ false → areaBytes ≤ length area
+area-long area b e w = area-true (length area) (sym e ∙ not-false b w)
+
+-- the whole after its front was cleared
+pub whole-area : (area part : List ℕ) → areaBytes ≤ length area → part ≡ replicate (length (take areaBytes area)) 0 → part ++ drop areaBytes area ≡ cleared area
+unfolding cleared
+whole-area area part h z = ap (λ (l : List ℕ). l ++ drop areaBytes area) (z ∙ ap (λ (n : ℕ). replicate n 0) (sym (front-bytes area h)))
+
+-- what is lent for witnesses, once it was cleared
+pub lent : {table : List ℕ} → Linked table → (list : List ℕ) → length (trace table) ≤ length list
+    → (area area₁ : List ℕ) → length area ≡ areaBytes → area₁ ≡ replicate (length area) 0 → WitnessRoom table list area₁
+unfolding Clear
+lent k list l area area₁ n c =
+    let m : length area₁ ≡ length area = ap length c ∙ length-replicate (length area) 0 in
+    record { links = k; room = l; clear = c ∙ ap (λ (i : ℕ). replicate i 0) (sym m); long = omega arith }
+
+-- ---- on a cleared work area
+
+module _ (area area₁ : List ℕ) (c : area₁ ≡ replicate (length area) 0) where
+  pub pair-lent : {table list : List ℕ} {a b : ℕ} → Decidable table a b list area → WitnessRoom table list area₁
+  pair-lent {list = list} d = lent (d .askable .links) list (d .askable .room) area area₁ (d .long) c
 
   -- what is shown
-  module _ {o : Option (List ℕ)} {list list′ area₂ : List ℕ} (x : Shown) (w : Shows o list list′ area₁ area₂ x) where
-    pub none-shown : x ≡ Absent → Decides o list list′ area₂ NotReported
-    none-shown e = record { says = sym (ap finding (shown-none o (sym e ∙ w .says))); wrote = w .wrote; zero = zero-area area n area₁ c area₂ (w .same) }
+  module _ {o : Option (List ℕ)} {list list′ area₂ : List ℕ} (x : Witnessed) (w : Shows o list list′ area₁ area₂ x) where
+    pub none-shown : x ≡ Absent → Decides o list list′ area area₂ NotReported
+    none-shown e = record { says = sym (ap finding (witnessed-none o (sym e ∙ w .says))); wrote = w .wrote; zero = w .same ∙ c }
 
-    pub one-shown : (m : ℕ) → x ≡ Length m → Decides o list list′ area₂ (Reported m)
+    pub one-shown : (m : ℕ) → x ≡ Length m → Decides o list list′ area area₂ (Reported m)
     one-shown m e =
-        let y = shown-some o m (sym e ∙ w .says) in
-        record { says = ap (λ (k : ℕ). Reported k) (y .2) ∙ sym (ap finding (y .1)); wrote = w .wrote; zero = zero-area area n area₁ c area₂ (w .same) }
+        let y = witnessed-some o m (sym e ∙ w .says) in
+        record { says = ap (λ (k : ℕ). Reported k) (y .2) ∙ sym (ap finding (y .1)); wrote = w .wrote; zero = w .same ∙ c }
 
 -- ---- the refusals, and the answer
 
--- ---- question 3
+module _ (t : Trace) (a b : ℕ) (list area : List ℕ) (c : Bool) (ec : c ≡ isConflicting t a b) where
+  pub pair-refused : not c ≡ true → (Refused NotConflicting, list, area) ≡ verdictIn none t a b list area
+  unfolding verdictIn
+  pair-refused w = rw (sym ec ∙ not-true c w)
 
-module _ (t : Trace) (a b : ℕ) (list area : List ℕ) where
-  module _ (c : Bool) (ec : c ≡ isConflicting t a b) where
-    pub pair-refused : not c ≡ true → (Refused NotConflicting, list, area) ≡ verdictIn none t a b list area
-    unfolding verdictIn verdictRefusal
-    pair-refused w = rw (sym ec ∙ not-true c w)
+  pub list-refused : not c ≡ false → (n : ℕ) → n ≡ length t → length list < n → (Refused ListShort, list, area) ≡ verdictIn none t a b list area
+  unfolding verdictIn
+  list-refused y n en h = let l : length list < length t = omega arith in rw (sym ec ∙ not-false c y, lt-ltb _ _ l)
 
-    module _ (yes : not c ≡ false) (n : ℕ) (en : n ≡ length t) where
-      pub list-refused : length list < n → (Refused ListShort, list, area) ≡ verdictIn none t a b list area
-      unfolding verdictIn verdictRefusal
-      list-refused h = let l : length list < length t = omega arith in rw (sym ec ∙ not-false c yes, lt-leb _ _ l)
+pub pair-askable : {table : List ℕ} → Linked table → (a b : ℕ) (list : List ℕ) (c : Bool) → c ≡ isConflicting (trace table) a b → not c ≡ false
+    → (n : ℕ) → n ≡ length (trace table) → n ≤ length list → Askable table a b list
+pair-askable k a b list c ec y n en h = record { links = k; conflicting = sym ec ∙ not-false c y; room = omega arith }
 
-      pub pair-askable : n ≤ length list → Good t → Askable t a b list
-      pair-askable h g = record { good = g; conflicting = sym ec ∙ not-false c yes; room = omega arith }
+module _ {table : List ℕ} {a b : ℕ} {list : List ℕ} (q : Askable table a b list) (area : List ℕ) (d : Bool) (ed : d ≡ isAreaSize (length area)) where
+  pub area-refused : not d ≡ true → (Refused AreaShort, list, area) ≡ verdictIn none (trace table) a b list area
+  unfolding verdictIn
+  area-refused w = rw (q .conflicting, le-ltb _ _ (q .room), sym ed ∙ not-true d w)
 
-  module _ (q : Askable t a b list) (d : Bool) (ed : d ≡ isAreaSize (length area)) where
-    pub area-refused : not d ≡ true → (Refused AreaShort, list, area) ≡ verdictIn none t a b list area
-    unfolding verdictIn verdictRefusal
-    area-refused w = rw (q .conflicting, le-leb _ _ (q .room), sym ed ∙ not-true d w)
+  module _ (w : not d ≡ false) where
+    pub pair-decidable : Decidable table a b list (take areaBytes area)
+    pair-decidable = record { askable = q; long = sym (front-bytes area (area-long area d ed w)) }
 
-    module _ (w : not d ≡ false) where
-      pub pair-decidable : Decidable t a b list (take areaBytes area)
-      pair-decidable = record { askable = q; long = sym (front-bytes area (area-long area d ed w)) }
-
-      decided-by : (o : Option (List ℕ)) → witness t a b ≡ o → (list′ part : List ℕ) (r : Finding) → Decides o list list′ part r → (r, list′, part ++ drop areaBytes area) ≡ verdictIn none t a b list area
-      unfolding verdictIn verdictRefusal
-      decided-by none e list′ part r x = rw (x .says, x .wrote, whole-area area part (x .zero), q .conflicting, le-leb _ _ (q .room), sym ed ∙ not-false d w, e)
-      decided-by (some ρ) e list′ part r x = rw (x .says, x .wrote, whole-area area part (x .zero), q .conflicting, le-leb _ _ (q .room), sym ed ∙ not-false d w, e)
-
-      pub pair-decided : (list′ part : List ℕ) (r : Finding) → Decides (witness t a b) list list′ part r → (r, list′, part ++ drop areaBytes area) ≡ verdictIn none t a b list area
-      pair-decided list′ part r x = decided-by (witness t a b) refl list′ part r x
+    pub pair-decided : (list′ part : List ℕ) (r : Finding) → Decides (witness (trace table) a b) list list′ (take areaBytes area) part r
+        → (r, list′, part ++ drop areaBytes area) ≡ verdictIn none (trace table) a b list area
+    unfolding verdictIn
+    pair-decided list′ part r x =
+        rw (x .says, x .wrote, whole-area area part (area-long area d ed w) (x .zero), q .conflicting, le-ltb _ _ (q .room), sym ed ∙ not-false d w)

@@ -1,3 +1,4 @@
--- Question 3 on events, and the way to the answer.
+-- Questions 3 and 4 on a table, and the way to the answers.
 pub mod Verdict
+pub mod Next
 pub mod Deciding

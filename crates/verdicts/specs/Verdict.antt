@@ -1,16 +1,18 @@
 -- Question 3 on events, computed, with the lent list and the work area after it. What the answers mean is said over a file's bytes, in the crate questions.
 use Prim.Native.Nat.{ℕ}
 use mathlib.Core.Option.{Option, none, some}
-use mathlib.Core.List.{List, _++_}
+use mathlib.Core.Bool.{Bool, not}
+use mathlib.Core.List.{List, [], _∷_, _++_}
 use lib.ListN.{length, drop, replicate}
-use lib.Dec.{leb}
+use lib.Dec.{ltb}
 use Rattle.model.specs.Trace.{Trace}
-use Rattle.model.specs.Decision.{witness, isConflicting}
+use Rattle.model.specs.Rows.{first, either}
+use Rattle.decision.specs.Decision.{witness, isConflicting}
 use Rattle.limits.specs.Limits.{areaBytes, isAreaSize}
+use Rattle.limits.specs.Refusals.{settled}
 use Rattle.limits.specs.declared.Refusal.{Refusal}
 use Rattle.limits.specs.declared.Refusal.the-variants.{ListShort, NotConflicting, AreaShort}
-use Rattle.judging.specs.Judged.{orElse, unless}
-use Rattle.pair.specs.Pair.{inFront}
+use Rattle.races.specs.Witness.{listWith}
 use Rattle.verdicts.specs.declared.Finding.{Finding}
 use Rattle.verdicts.specs.declared.Finding.the-variants.{Refused, Reported, NotReported}
 
@@ -18,17 +20,17 @@ use Rattle.verdicts.specs.declared.Finding.the-variants.{Refused, Report
 unfoldable pub cleared : List ℕ → List ℕ
 cleared area = replicate areaBytes 0 ++ drop areaBytes area
 
--- the first refusal, by the file's refusal f, if there is one, and its events: 1 to 4, 13, 5 to 9, then 11, 10, 12
-unfoldable pub verdictRefusal : Option Refusal → Trace → ℕ → ℕ → List ℕ → List ℕ → Option Refusal
-verdictRefusal f t a b list area =
-    orElse f
-    (orElse (unless (isConflicting t a b) NotConflicting) (orElse (unless (leb (length t) (length list)) ListShort) (unless (isAreaSize (length area)) AreaShort)))
+-- the tests of refusals 11, 10 and 12
+abbrev pub verdictTests : Trace → ℕ → ℕ → List ℕ → List ℕ → List Bool
+verdictTests t a b list area = not (isConflicting t a b) ∷ ltb (length list) (length t) ∷ not (isAreaSize (length area)) ∷ []
 
--- a refusal changes nothing
-abbrev pub verdictBy : Option Refusal → Option (List ℕ) → List ℕ → List ℕ → Finding × List ℕ × List ℕ
-verdictBy (some r) o list area = (Refused r, list, area)
-verdictBy none none list area = (NotReported, list, cleared area)
-verdictBy none (some ρ) list area = (Reported (length ρ), inFront ρ list, cleared area)
+-- the answer by the witness, if there is one
+abbrev pub finding : Option (List ℕ) → Finding
+finding none = NotReported
+finding (some ρ) = Reported (length ρ)
 
+-- by the file's refusal f, if there is one, and its events; a refusal changes nothing
 unfoldable pub verdictIn : Option Refusal → Trace → ℕ → ℕ → List ℕ → List ℕ → Finding × List ℕ × List ℕ
-verdictIn f t a b list area = verdictBy (verdictRefusal f t a b list area) (witness t a b) list area
+verdictIn f t a b list area =
+    settled (λ r. (Refused r, list, area)) (finding (witness t a b), listWith (witness t a b) list, cleared area)
+    (either f (first (verdictTests t a b list area) (NotConflicting ∷ ListShort ∷ AreaShort ∷ [])))

@@ -1,29 +1,31 @@
 -- The ways through the writer.
 use Prim.Native.Nat.{ℕ, _+_, _*_, _≤_, _<_}
 use native.Mathlib.Omega.{arith}
-use mathlib.Core.Path.{_≡_, sym, _∙_, ap}
+use mathlib.Core.Path.{_≡_, refl, sym, _∙_, ap}
+use mathlib.Core.Logic.{inl}
 use mathlib.Core.Bool.{Bool, true, false, not}
 use mathlib.Core.Option.{some}
-use mathlib.Core.List.{List, _++_}
-use lib.ListN.{length, take, drop, take-append-drop}
+use mathlib.Core.List.{List}
+use lib.ListN.{length, take, take-append-drop}
 use lib.Seq.{length-take-le}
 use lib.Dec.{eqb, leb}
-use borrow.Author.Tests.{eqb-true, eq-eqb, ne-eqb, leb-true, lt-leb, le-leb, not-true, not-false}
+use borrow.Author.Tests.{eqb-true, eq-eqb, ne-eqb, leb-true, lt-leb, le-leb, lt-ltb, le-ltb, not-true, not-false}
 use Rattle.model.proofs.Tests.{both, true-both, test-false}
+use Rattle.model.specs.Lists.{inFront}
 use Rattle.limits.specs.Limits.{eventBytes, trailerBytes, maxBytes, isFileSize}
 use Rattle.limits.specs.declared.Refusal.{Refusal}
 use Rattle.limits.specs.declared.Refusal.the-variants.{FileSize, ListShort}
-use Rattle.limits.specs.declared.Trace.{Trace as Span}
-use Rattle.format.specs.Layout.{fileOf, bad-size}
+use Rattle.limits.specs.declared.Recording.{Recording}
+use Rattle.format.specs.Layout.{fileOf}
 use Rattle.format.proofs.LayoutExact.{true-sized}
 use Rattle.format.specs.declared.File.{File}
 use Rattle.format.specs.declared.File.the-variants.{Refused as FileRefused, Good as FileGood}
-use Rattle.judging.specs.Judged.{by-layout, fileRefusal}
+use Rattle.judging.specs.Judged.{fileRefusal}
 use Rattle.judging.proofs.FileLaws.{meaning, judged-refused, judged-clean}
 use Rattle.appending.specs.Appended.{Appends}
-use Rattle.layout.specs.Written.{writtenBytes, traceFrom, Even, Fitting}
-use Rattle.layout.proofs.ListLaws.{from-length}
-use Rattle.layout.proofs.SizeLaws.{written-length}
+use Rattle.writing.specs.Written.{writtenBytes, traceFrom, Even, Fitting}
+use Rattle.writing.proofs.ListLaws.{from-length}
+use Rattle.writing.proofs.SizeLaws.{written-length}
 use Rattle.writing.specs.Writing.{fileFrom, isEven, handed, answerWrite}
 use Rattle.writing.specs.declared.Written.{Written}
 use Rattle.writing.specs.declared.Written.the-variants.{Refused, Bytes}
@@ -77,17 +79,17 @@ module _ (s buffer : List ℕ) (f : File) (is : f ≡ fileOf s (fileRefusal even
   unfolding handed
   hand-refused r e = rw (judged-refused s f is r e)
 
-  module _ (t : Span) (e : f ≡ FileGood t) where
+  module _ (t : Recording) (e : f ≡ FileGood t) where
     pub hand-short : length buffer < length s → (Refused ListShort, buffer) ≡ handed s buffer
     unfolding handed
-    hand-short h = rw (judged-clean s f is t e, lt-leb (length s) (length buffer) h)
+    hand-short h = rw (judged-clean s f is t e, lt-ltb (length buffer) (length s) h)
 
     pub hand-good : length s ≤ length buffer → {out : List ℕ} {r : ℕ} → Appends s 0 buffer out r → (Bytes r, out) ≡ handed s buffer
-    unfolding handed
+    unfolding handed inFront
     hand-good h {out} {r} a =
         let n : r ≡ length s = let x = a .ends in omega arith in
-        let o : out ≡ s ++ drop (length s) buffer = sym (take-append-drop r out) ∙ rw (a .front, a .rest, n) in
-        rw (judged-clean s f is t e, le-leb (length s) (length buffer) h, n, o)
+        let o : out ≡ inFront s buffer = sym (take-append-drop r out) ∙ rw (a .front, a .rest, n) in
+        rw (judged-clean s f is t e, le-ltb (length buffer) (length s) h, n, o)
 
 -- ---- the writer
 
@@ -103,7 +105,7 @@ module _ {threads kinds objects : List ℕ} (b : Bool) (eb : b ≡ isEven thread
 module _ (p threads kinds objects buffer : List ℕ) (b : Bool) (eb : b ≡ isEven threads kinds objects) where
   pub lists-uneven : not b ≡ true → (Refused ListShort, buffer) ≡ answerWrite p threads kinds objects buffer
   unfolding answerWrite
-  lists-uneven h = rw (← eb, not-true b h)
+  lists-uneven h = rw (← eb, h)
 
   module _ (ok : not b ≡ false) where
     are-even : isEven threads kinds objects ≡ true
@@ -116,14 +118,14 @@ module _ (p threads kinds objects buffer : List ℕ) (b : Bool) (eb : b ≡ isEv
 
     module _ (d : Bool) (ed : d ≡ isFileSize (writtenBytes eventBytes (length p) (length threads))) where
       pub file-long : not d ≡ true → (Refused FileSize, buffer) ≡ answerWrite p threads kinds objects buffer
-      unfolding answerWrite handed
+      unfolding answerWrite
       file-long h =
           let file = fileFrom p threads kinds objects in
           let n = test-false (true-sized file) (ap isFileSize size ∙ sym ed ∙ not-true d h) in
-          rw (are-even, meaning file (some FileSize) .1 (by-layout (bad-size n)))
+          rw (are-even, meaning file (some FileSize) .1 (record { first-row = inl (n, refl) }))
 
     pub handed-on : {w : Written} {buffer′ : List ℕ} → (w, buffer′) ≡ handed (fileFrom p threads kinds objects) buffer → (w, buffer′) ≡ answerWrite p threads kinds objects buffer
-    unfolding answerWrite
+    unfolding answerWrite handed
     handed-on e = e ∙ rw are-even
 
 -- the front of the array is the file

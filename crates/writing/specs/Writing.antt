@@ -1,22 +1,23 @@
 -- The writer: the answer, and the lent buffer after it.
-use Prim.Native.Nat.{ℕ, _≤_}
+use Prim.Native.Nat.{ℕ, _≤_, _<_}
 use mathlib.Core.Path.{_≡_}
-use mathlib.Core.Bool.{Bool, cond, _&&_}
+use mathlib.Core.Bool.{Bool, not, _&&_}
 use mathlib.Core.Option.{Option, none, some}
-use mathlib.Core.List.{List, _++_}
-use lib.ListN.{length, drop}
-use lib.Dec.{eqb, leb}
+use mathlib.Core.List.{List, [], _∷_, _++_}
+use lib.ListN.{length}
+use lib.Dec.{eqb, ltb}
 use Rattle.model.specs.Trace.{Trace}
+use Rattle.model.specs.Lists.{inFront}
 use Rattle.model.specs.Good.{Good, maxEvents}
-use Rattle.model.specs.Refusals.{RefusedEvent, FirstRefusal}
+use Rattle.model.specs.Rows.{Row, row, nothing, first, either}
+use Rattle.model.specs.Refusals.{traceRows}
 use Rattle.limits.specs.Limits.{eventBytes, maxBytes}
-use Rattle.limits.specs.Refusals.{numberOf, eventOf}
+use Rattle.limits.specs.Refusals.{RefusedBy, Asked, settled}
 use Rattle.limits.specs.declared.Refusal.{Refusal}
-use Rattle.limits.specs.declared.Refusal.the-variants.{FileSize, EventCount, ListShort, Preamble}
-use Rattle.limits.specs.declared.EventNumber.the-variants.{At}
-use Rattle.preambles.specs.Readable.{Readable}
-use Rattle.judging.specs.Judged.{GoodFile, FileRefusal, orElse, unless, fileRefusal}
-use Rattle.layout.specs.Written.{written, writtenBytes, traceFrom, Even}
+use Rattle.limits.specs.declared.Refusal.the-variants.{ListShort}
+use Rattle.format.specs.Readable.{Readable}
+use Rattle.judging.specs.Judged.{fileRows, fileRefusal}
+use Rattle.writing.specs.Written.{written, writtenBytes, traceFrom, Even}
 use Rattle.writing.specs.declared.Written.{Written}
 use Rattle.writing.specs.declared.Written.the-variants.{Refused, Bytes}
 
@@ -31,17 +32,13 @@ pub record Writable (z : ℕ) (p : List ℕ) (t : Trace) : Type 0 where
   pub readable : Readable p
   pub good : Good t
 
--- refusals 1, 3, 13 and 5 to 9; 2 and 4 have no case
-pub data WriteRefusal (z : ℕ) (p : List ℕ) (t : Trace) : Refusal → Type 0 where
-  too-long : ¬ NotTooLong z p t → WriteRefusal z p t FileSize
-  too-many : NotTooLong z p t → ¬ (length t ≤ maxEvents) → WriteRefusal z p t EventCount
-  unreadable : NotTooLong z p t → length t ≤ maxEvents → ¬ Readable p → WriteRefusal z p t Preamble
-  bad-event : {r : Refusal} → NotTooLong z p t → length t ≤ maxEvents → Readable p
-      → (x : RefusedEvent) → FirstRefusal t x → numberOf r ≡ x .code → eventOf r ≡ At (x .event) → WriteRefusal z p t r
+-- the rows: 2 and 4 have no case
+abbrev pub writeRows : ℕ → List ℕ → Trace → List Row
+writeRows z p t = row 1 nothing (¬ NotTooLong z p t) ∷ row 3 nothing (¬ (length t ≤ maxEvents)) ∷ row 13 nothing (¬ Readable p) ∷ traceRows t
 
 abbrev pub WriteAnswer : ℕ → List ℕ → Trace → Option Refusal → Type 0
 WriteAnswer z p t none = Writable z p t
-WriteAnswer z p t (some r) = WriteRefusal z p t r
+WriteAnswer z p t (some r) = RefusedBy (writeRows z p t) r
 
 -- ---- the answer of the writer
 
@@ -49,32 +46,32 @@ WriteAnswer z p t (some r) = WriteRefusal z p t r
 abbrev pub fileFrom : List ℕ → List ℕ → List ℕ → List ℕ → List ℕ
 fileFrom p threads kinds objects = written eventBytes p (traceFrom threads kinds objects)
 
--- a buffer with a file in its front, and the rest as it was
-abbrev pub holding : List ℕ → List ℕ → List ℕ
-holding file buffer = file ++ drop (length file) buffer
+-- the file in the front of the buffer, and the rest as it was
+abbrev pub wrote : List ℕ → List ℕ → Written × List ℕ
+wrote file buffer = (Bytes (length file), inFront file buffer)
 
--- what each answer means: lists of different lengths have no file, which is refusal 10; what reading refuses is refused with that number;
--- a buffer too short is refusal 10, judged last. A refusal changes nothing
-pub data Writes (p threads kinds objects buffer : List ℕ) : Written × List ℕ → Type 0 where
-  uneven : ¬ Even threads kinds objects → Writes p threads kinds objects buffer (Refused ListShort, buffer)
-  not-read : {r : Refusal} → Even threads kinds objects → FileRefusal eventBytes (fileFrom p threads kinds objects) r → Writes p threads kinds objects buffer (Refused r, buffer)
-  buffer-short : Even threads kinds objects → GoodFile eventBytes (fileFrom p threads kinds objects) → ¬ (length (fileFrom p threads kinds objects) ≤ length buffer)
-      → Writes p threads kinds objects buffer (Refused ListShort, buffer)
-  wrote : Even threads kinds objects → GoodFile eventBytes (fileFrom p threads kinds objects) → length (fileFrom p threads kinds objects) ≤ length buffer
-      → Writes p threads kinds objects buffer (Bytes (length (fileFrom p threads kinds objects)), holding (fileFrom p threads kinds objects) buffer)
+-- the rows: lists of different lengths have no file, which is refusal 10; then those of reading the file; a buffer too short is refusal 10, judged last
+abbrev pub writerRows : List ℕ → List ℕ → List ℕ → List ℕ → List ℕ → List Row
+writerRows p threads kinds objects buffer =
+    row 10 nothing (¬ Even threads kinds objects) ∷ (fileRows eventBytes (fileFrom p threads kinds objects) ++ row 10 nothing (length buffer < length (fileFrom p threads kinds objects)) ∷ [])
+
+-- what each answer means; a refusal changes nothing
+abbrev pub Writes : List ℕ → List ℕ → List ℕ → List ℕ → List ℕ → Written × List ℕ → Type 0
+Writes p threads kinds objects buffer w = Asked (writerRows p threads kinds objects buffer) (λ r. (Refused r, buffer)) (λ w. wrote (fileFrom p threads kinds objects) buffer ≡ w) w
 
 -- ---- computed
 
 unfoldable pub isEven : List ℕ → List ℕ → List ℕ → Bool
 isEven threads kinds objects = eqb (length kinds) (length threads) && eqb (length objects) (length threads)
 
-abbrev pub writtenBy : Option Refusal → List ℕ → List ℕ → Written × List ℕ
-writtenBy none file buffer = (Bytes (length file), holding file buffer)
-writtenBy (some r) file buffer = (Refused r, buffer)
-
 -- a file handed to a buffer
+abbrev pub handRefusal : List ℕ → List ℕ → Option Refusal
+handRefusal file buffer = either (fileRefusal eventBytes file) (first (ltb (length buffer) (length file) ∷ []) (ListShort ∷ []))
+
 unfoldable pub handed : List ℕ → List ℕ → Written × List ℕ
-handed file buffer = writtenBy (orElse (fileRefusal eventBytes file) (unless (leb (length file) (length buffer)) ListShort)) file buffer
+handed file buffer = settled (λ r. (Refused r, buffer)) (wrote file buffer) (handRefusal file buffer)
 
 unfoldable pub answerWrite : List ℕ → List ℕ → List ℕ → List ℕ → List ℕ → Written × List ℕ
-answerWrite p threads kinds objects buffer = cond (isEven threads kinds objects) (handed (fileFrom p threads kinds objects) buffer) (Refused ListShort, buffer)
+answerWrite p threads kinds objects buffer =
+    let file = fileFrom p threads kinds objects in
+    settled (λ r. (Refused r, buffer)) (wrote file buffer) (either (first (not (isEven threads kinds objects) ∷ []) (ListShort ∷ [])) (handRefusal file buffer))

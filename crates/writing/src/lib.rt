@@ -1,14 +1,85 @@
 // The writer: the file of a preamble and events, in the front of a lent buffer, or the refusal that reading it would give.
+use appending::put_byte;
 use appending::put_word;
 use format::File;
-use layout::put_file;
 use limits::Event;
+use limits::Recording;
 use limits::Refusal;
-use limits::Trace;
 ghost use mathlib.Core.Path.{_≡_};
-ghost use Rattle.limits.specs.Limits.{eventBytes, isFileSize};
-ghost use Rattle.layout.specs.Written.{writtenBytes, Fitting};
+ghost use Rattle.limits.specs.Limits.{eventBytes, isFileSize, trailerBytes};
+ghost use Rattle.writing.specs.Written.{writtenBytes, Fitting, bytes16, bytes32, writtenEvent, writtenEvents, writtenTrailer, written, traceFrom, Even};
 ghost use Rattle.writing.specs.Writing.{fileFrom, isEven, handed, answerWrite};
+ghost use Prim.Native.Nat.{_+_, _*_, _≤_, _<_};
+ghost use lib.ListN.{length};
+ghost use Rattle.appending.specs.Appended.{Appends};
+
+fn put16(out: &mut [u8], at: usize, n: u16) -> usize
+    requires { ⌜ at + 2 ≤ length (now out) ⌝ }
+    ensures { λ r. ⌜ Appends (bytes16 n) at (now (out .entry)) (now (out .exit)) r ⌝ }
+{
+    let high = put_byte(out, at, (n % 256) as u8);
+    put_byte(out, high, (n / 256) as u8)
+}
+
+fn put32(out: &mut [u8], at: usize, n: u32) -> usize
+    requires { ⌜ at + 4 ≤ length (now out) ⌝ }
+    ensures { λ r. ⌜ Appends (bytes32 n) at (now (out .entry)) (now (out .exit)) r ⌝ }
+{
+    let high = put16(out, at, (n % 65536) as u16);
+    put16(out, high, (n / 65536) as u16)
+}
+
+fn put_event(out: &mut [u8], at: usize, thread: u8, kind: u8, object: u16) -> usize
+    requires { ⌜ at + eventBytes ≤ length (now out) ⌝ }
+    ensures { λ r. ⌜ Appends (writtenEvent eventBytes (record { thread = thread; kind = kind; object = object })) at (now (out .entry)) (now (out .exit)) r ⌝ }
+{
+    let second = put_byte(out, at, thread);
+    let third = put_byte(out, second, kind);
+    put16(out, third, object)
+}
+
+// Event k is what the three lists have at place k - 1.
+fn put_events(out: &mut [u8], at: usize, threads: &[u8], kinds: &[u8], objects: &[u16]) -> usize
+    requires { ⌜ Even (now threads) (now kinds) (now objects) ⌝ }
+    requires { ⌜ at + eventBytes * length (now threads) ≤ length (now out) ⌝ }
+    ensures { λ r. ⌜ Appends (writtenEvents eventBytes (traceFrom (now (threads .entry)) (now (kinds .entry)) (now (objects .entry)))) at (now (out .entry)) (now (out .exit)) r ⌝ }
+{
+    let mut end = at;
+    let mut i = 0;
+    while i < threads.len() {
+        end = put_event(out, end, threads[i], kinds[i], objects[i]);
+        i += 1;
+    }
+    end
+}
+
+// The trailer of n events.
+fn put_trailer(out: &mut [u8], at: usize, n: u16) -> usize
+    requires { ⌜ at + trailerBytes ≤ length (now out) ⌝ }
+    ensures { λ r. ⌜ Appends (writtenTrailer eventBytes n) at (now (out .entry)) (now (out .exit)) r ⌝ }
+{
+    let distance = Recording::TRAILER_BYTES as u32 + Event::BYTES as u32 * n as u32;
+    let count = put32(out, at, distance);
+    let mark = put16(out, count, n);
+    let last = put_byte(out, mark, Recording::MARK_FIRST);
+    put_byte(out, last, Recording::MARK_SECOND)
+}
+
+// The file of a preamble and of the events that the three lists have, in the front of the buffer.
+pub fn put_file(
+    out: &mut [u8; Recording::MAX_BYTES],
+    preamble: &[u8],
+    threads: &[u8],
+    kinds: &[u8],
+    objects: &[u16],
+) -> usize
+    requires { ⌜ Fitting (now preamble) (now threads) (now kinds) (now objects) ⌝ }
+    ensures { λ r. ⌜ Appends (written eventBytes (now (preamble .entry)) (traceFrom (now (threads .entry)) (now (kinds .entry)) (now (objects .entry)))) 0 (now (out .entry)) (now (out .exit)) r ⌝ }
+{
+    let events = put_word(out, 0, preamble);
+    let trailer = put_events(out, events, threads, kinds, objects);
+    put_trailer(out, trailer, threads.len() as u16)
+}
 
 // How many bytes were written, or why none were.
 pub enum Written {
@@ -30,13 +101,13 @@ fn even(threads: &[u8], kinds: &[u8], objects: &[u16]) -> bool
 fn fits(preamble: usize, events: usize) -> bool
     ensures { λ r. ⌜ r ≡ isFileSize (writtenBytes eventBytes preamble events) ⌝ }
 {
-    if Trace::MAX_BYTES < preamble {
+    if Recording::MAX_BYTES < preamble {
         return false;
     }
-    if Trace::MAX_BYTES < events {
+    if Recording::MAX_BYTES < events {
         return false;
     }
-    Trace::bytes_in_limit(preamble + Event::BYTES * events + Trace::TRAILER_BYTES)
+    Recording::bytes_in_limit(preamble + Event::BYTES * events + Recording::TRAILER_BYTES)
 }
 
 // Hands a file to a buffer, if reading it refuses nothing and the buffer is long enough.
@@ -65,7 +136,7 @@ fn write_fitting(
     requires { ⌜ Fitting (now preamble) (now threads) (now kinds) (now objects) ⌝ }
     ensures { λ r. ⌜ (r, now (buffer .exit)) ≡ handed (fileFrom (now (preamble .entry)) (now (threads .entry)) (now (kinds .entry)) (now (objects .entry))) (now (buffer .entry)) ⌝ }
 {
-    let mut file = [0u8; Trace::MAX_BYTES];
+    let mut file = [0u8; Recording::MAX_BYTES];
     let size = put_file(&mut file, preamble, threads, kinds, objects);
     hand(&file[..size], buffer)
 }

@@ -1,6 +1,5 @@
 use borrow.Author.Needs.{needs}
-use Rattle.links.proofs.TableLaws.{tables-room}
-use Rattle.checking.proofs.CheckingLaws.{check-refused, check-asked, check-clean, check-fault}
+use Rattle.checking.proofs.CheckLaws.{lower-valid, higher-valid, check-refused, check-clean, check-fault}
 use Rattle.checking.proofs.check_in.Statement.{statement}
 use Rattle.checking.proofs.check_in.Tie as tie
 
@@ -10,13 +9,6 @@ check-in-spec =
     (tie.spec
     (λ c κs. search needs)
     (λ c. search (check-refused, needs))
-    (λ c. search needs)
-    (λ c. search needs)
-    (λ c. search needs)
-    (λ c κs. search (tables-room, needs))
-    (λ c. search needs)
-    (λ c. search needs)
-    (λ c. search needs)
-    (λ c κs. search (check-asked, needs))
+    (λ c κs. search (lower-valid, higher-valid, needs))
     (λ c. search (check-clean, needs))
     (λ c. search check-fault))

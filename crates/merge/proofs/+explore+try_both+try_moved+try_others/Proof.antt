@@ -16,20 +16,20 @@ use Rattle.merge.proofs.+explore+try_both+try_moved+try_others.Lts-try_
 use Rattle.bits.proofs.mark.Reads as mark-reads
 use Rattle.bits.proofs.marked.Reads as marked-reads
 use Rattle.merge.proofs.state_at.Reads as state-at-reads
-use Rattle.placing.proofs.place.Reads as place-reads
+use Rattle.bits.proofs.place.Reads as place-reads
 use Rattle.steps.proofs.may_step.Reads as may-step-reads
 use Rattle.merge.proofs.+explore+try_both+try_moved+try_others.{statement}
 use Rattle.merge.proofs.+explore+try_both+try_moved+try_others.Tie.{close}
 
 -- three for each event that is left, and c, where in the cycle the function stands
-abbrev μ : ℕ → Measures 7 kinds.ps ℕ
-μ c κs a = 3 * (length (a .1 .1 .1 .0 .now) + length (a .1 .1 .1 .1 .0 .now) - (a .1 .1 .1 .1 .1 .1 .0 + a .1 .1 .1 .1 .1 .1 .1 .0)) + c
+abbrev μ : ℕ → Measures 5 kinds.ps ℕ
+μ c κs a = 3 * (length (a .1 .0 .now) + length (a .1 .1 .0 .now) - (a .1 .1 .1 .1 .0 + a .1 .1 .1 .1 .1 .0)) + c
 
-abbrev at : ℕ → In 7 kinds.ps → ℕ → In 7 kinds.ps
-at c pre t = and 7 kinds.ps (is 7 kinds.ps (μ c) t) pre
+abbrev at : ℕ → In 5 kinds.ps → ℕ → In 5 kinds.ps
+at c pre t = and 5 kinds.ps (is 5 kinds.ps (μ c) t) pre
 
-abbrev below : ℕ → In 7 kinds.ps → ℕ → In 7 kinds.ps
-below c pre t = and 7 kinds.ps (falls 7 kinds.ps _<_ (μ c) t) pre
+abbrev below : ℕ → In 5 kinds.ps → ℕ → In 5 kinds.ps
+below c pre t = and 5 kinds.ps (falls 5 kinds.ps _<_ (μ c) t) pre
 
 pub +explore+try-both+try-moved+try-others-spec : {M : Type 1} → statement M
 +explore+try-both+try-moved+try-others-spec =
@@ -60,7 +60,7 @@ pub +explore+try-both+try-moved+try-others-spec : {M : Type 1} → statement M
     (λ c. search needs)
     (λ c. search needs)
     (λ c. search (first-found, needs))
-    (λ c κs. let d = c .before .before .before .before .before .before .before in (search needs, still-ready (d .before .before .before .before .before .before .before .before .before .before .pre .1) (d .try-others .ensures .sound) (search needs) (search needs)))
+    (λ c κs. let d = c .before .before .before .before .before .before .before in (search needs, still-ready (d .before .before .before .before .before .before .before .before .pre .1) (d .try-others .ensures .sound) (search needs) (search needs)))
     (λ c. search needs)
     (λ c. search needs)
     (λ c. search (second-tried, needs)))

@@ -1,5 +1,5 @@
 use borrow.Author.Needs.{needs}
-use Rattle.report.proofs.FinishLaws.{refused-within, begun-placed}
+use Rattle.report.proofs.FinishLaws.{refused-within, table-within, table-long}
 use Rattle.nightly.proofs.NightlyLaws.{block-starting}
 use Rattle.nightly.proofs.write_report.Statement.{statement}
 use Rattle.nightly.proofs.write_report.Tie as tie
@@ -9,18 +9,13 @@ write-report-spec =
     tie.close
     (tie.spec
     (λ c. search needs)
-    (λ c. search needs)
-    (λ c. search needs)
-    (λ c. search needs)
     (λ c κs. search needs)
     (λ c. search needs)
     (λ c. search needs)
     (λ c κs. search (refused-within, needs))
     (λ c. search needs)
-    (λ c κs. search (begun-placed, needs))
-    (λ c. search needs)
-    (λ c. search needs)
-    (λ c. search needs)
+    (λ c. search (table-within, needs))
+    (λ c. search (table-long, needs))
     (λ c. search needs)
     (λ c κs. search (block-starting, needs))
     (λ c. search needs)

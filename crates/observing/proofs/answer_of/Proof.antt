@@ -1,5 +1,5 @@
 use borrow.Author.Needs.{needs}
-use Rattle.observing.proofs.ObservingLaws.{says-no-read, says-start, says-write}
+use Rattle.observing.proofs.EntriesLaws.{says-no-read, says-start, says-write}
 use Rattle.observing.proofs.answer_of.Statement.{statement}
 use Rattle.observing.proofs.answer_of.Tie as tie
 

@@ -1,6 +1,6 @@
 use borrow.Author.Needs.{needs}
-use Rattle.judging.proofs.FileLaws.{judged-placed, judged-trace}
-use Rattle.questions.proofs.VerdictLaws.{refused-check, good-check}
+use Rattle.opening.proofs.OpenLaws.{opened-within, opened-long, opened-linked}
+use Rattle.questions.proofs.AnswerLaws.{refused-check, good-check}
 use Rattle.questions.proofs.check_reordering.Statement.{statement}
 use Rattle.questions.proofs.check_reordering.Tie as tie
 
@@ -11,7 +11,8 @@ check-reordering-spec =
     (λ c κs. search needs)
     (λ c. search needs)
     (λ c. search needs)
-    (λ c κs. search (judged-placed, needs))
-    (λ c κs. search (judged-trace, needs))
+    (λ c. search (opened-within, needs))
+    (λ c. search (opened-long, needs))
+    (λ c κs. search (opened-linked, needs))
     (λ c. search (refused-check, needs))
     (λ c. search (good-check, needs)))

@@ -1,6 +1,6 @@
-use Rattle.questions.proofs.AnswerLaws.{refused-judgement, good-judgement}
-use Rattle.judging.proofs.FileLaws.{judged-placed, judged-number-fits, judged-trace}
 use borrow.Author.Needs.{needs}
+use Rattle.opening.proofs.OpenLaws.{opened-within, opened-long, opened-good}
+use Rattle.questions.proofs.AnswerLaws.{refused-judgement, good-judgement, number-fits}
 use Rattle.questions.proofs.judge.Statement.{statement}
 use Rattle.questions.proofs.judge.Tie as tie
 
@@ -11,8 +11,12 @@ judge-spec =
     (λ c κs. search needs)
     (λ c. search needs)
     (λ c. search needs)
-    (λ c. search (judged-number-fits, needs))
-    (λ c κs. search (judged-placed, needs))
-    (λ c κs. search (judged-trace, needs))
+    (λ c. search (opened-within, needs))
+    (λ c. search (opened-long, needs))
+    (λ c κs. search needs)
+    (λ c. search (number-fits, needs))
+    (λ c. search (opened-within, needs))
+    (λ c. search (opened-long, needs))
+    (λ c κs. search (opened-good, needs))
     (λ c. search (refused-judgement, needs))
     (λ c. search (good-judgement, needs)))

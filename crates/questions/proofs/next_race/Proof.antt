@@ -1,6 +1,6 @@
 use borrow.Author.Needs.{needs}
-use Rattle.judging.proofs.FileLaws.{judged-placed, judged-trace}
-use Rattle.questions.proofs.VerdictLaws.{refused-next, good-next}
+use Rattle.opening.proofs.OpenLaws.{opened-within, opened-long, opened-linked}
+use Rattle.questions.proofs.AnswerLaws.{refused-next, good-next}
 use Rattle.questions.proofs.next_race.Statement.{statement}
 use Rattle.questions.proofs.next_race.Tie as tie
 
@@ -11,8 +11,9 @@ next-race-spec =
     (λ c κs. search needs)
     (λ c. search needs)
     (λ c. search needs)
-    (λ c κs. search (judged-placed, needs))
-    (λ c κs. search (judged-trace, needs))
+    (λ c. search (opened-within, needs))
+    (λ c. search (opened-long, needs))
+    (λ c κs. search (opened-linked, needs))
     (λ c. search (refused-next, needs))
     (λ c. search needs)
     (λ c. search (good-next, needs)))

@@ -1,6 +1,6 @@
-use Rattle.questions.proofs.AnswerLaws.{refused-observed, good-observed}
-use Rattle.judging.proofs.FileLaws.{judged-placed, judged-trace}
 use borrow.Author.Needs.{needs}
+use Rattle.opening.proofs.OpenLaws.{opened-within, opened-long, opened-linked}
+use Rattle.questions.proofs.AnswerLaws.{refused-observed, good-observed}
 use Rattle.questions.proofs.observed_write.Statement.{statement}
 use Rattle.questions.proofs.observed_write.Tie as tie
 
@@ -11,7 +11,8 @@ observed-write-spec =
     (λ c κs. search needs)
     (λ c. search needs)
     (λ c. search needs)
-    (λ c κs. search (judged-placed, needs))
-    (λ c κs. search (judged-trace, needs))
+    (λ c. search (opened-within, needs))
+    (λ c. search (opened-long, needs))
+    (λ c κs. search (opened-linked, needs))
     (λ c. search (refused-observed, needs))
     (λ c. search (good-observed, needs)))

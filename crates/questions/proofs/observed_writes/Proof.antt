@@ -1,5 +1,5 @@
 use borrow.Author.Needs.{needs}
-use Rattle.judging.proofs.FileLaws.{judged-placed, judged-trace}
+use Rattle.opening.proofs.OpenLaws.{opened-within, opened-long, opened-linked}
 use Rattle.questions.proofs.AnswerLaws.{refused-observations, good-observations}
 use Rattle.questions.proofs.observed_writes.Statement.{statement}
 use Rattle.questions.proofs.observed_writes.Tie as tie
@@ -11,8 +11,9 @@ observed-writes-spec =
     (λ c κs. search needs)
     (λ c. search needs)
     (λ c. search needs)
-    (λ c κs. search (judged-placed, needs))
-    (λ c κs. search (judged-trace, needs))
+    (λ c. search (opened-within, needs))
+    (λ c. search (opened-long, needs))
+    (λ c κs. search (opened-linked, needs))
     (λ c. search (refused-observations, needs))
     (λ c. search needs)
     (λ c. search (good-observations, needs)))

@@ -1,6 +1,6 @@
 use borrow.Author.Needs.{needs}
-use Rattle.judging.proofs.FileLaws.{judged-placed, judged-trace}
-use Rattle.questions.proofs.VerdictLaws.{refused-verdict, good-verdict}
+use Rattle.opening.proofs.OpenLaws.{opened-within, opened-long, opened-linked}
+use Rattle.questions.proofs.AnswerLaws.{refused-verdict, good-verdict}
 use Rattle.questions.proofs.verdict.Statement.{statement}
 use Rattle.questions.proofs.verdict.Tie as tie
 
@@ -11,8 +11,9 @@ verdict-spec =
     (λ c κs. search needs)
     (λ c. search needs)
     (λ c. search needs)
-    (λ c κs. search (judged-placed, needs))
-    (λ c κs. search (judged-trace, needs))
+    (λ c. search (opened-within, needs))
+    (λ c. search (opened-long, needs))
+    (λ c κs. search (opened-linked, needs))
     (λ c. search (refused-verdict, needs))
     (λ c. search needs)
     (λ c. search needs)

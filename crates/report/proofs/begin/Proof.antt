@@ -1,6 +1,6 @@
 use borrow.Author.Needs.{needs}
-use Rattle.judging.proofs.FileLaws.{judged-placed, judged-number-fits, judged-trace}
-use Rattle.report.proofs.BeginLaws.{refused-begun, rooms, good-begun}
+use Rattle.opening.proofs.OpenLaws.{opened-long, opened-linked}
+use Rattle.report.proofs.FinishLaws.{refused-begun, good-begun}
 use Rattle.report.proofs.begin.Statement.{statement}
 use Rattle.report.proofs.begin.Tie as tie
 
@@ -12,15 +12,9 @@ begin-spec =
     (λ c. search needs)
     (λ c κs. search needs)
     (λ c. search needs)
-    (λ c κs. search (judged-placed, needs))
-    (λ c κs. search (rooms, needs))
-    (λ c κs. search (judged-trace, needs))
-    (λ c. search (judged-number-fits, needs))
-    (λ c κs. search needs)
+    (λ c. search (opened-long, needs))
+    (λ c κs. search (opened-linked, needs))
     (λ c. search needs)
     (λ c. search (refused-begun, needs))
-    (λ c. search needs)
-    (λ c. search needs)
-    (λ c. search needs)
     (λ c. search needs)
     (λ c. search (good-begun, needs)))

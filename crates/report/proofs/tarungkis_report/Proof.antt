@@ -1,5 +1,5 @@
 use borrow.Author.Needs.{needs}
-use Rattle.report.proofs.FinishLaws.{too-short, refused-reported, begun-placed, begun-within, begun-full, begun-starting, good-reported}
+use Rattle.report.proofs.FinishLaws.{too-short, refused-reported, table-within, table-long, begun-within, begun-full, begun-starting, good-reported}
 use Rattle.report.proofs.tarungkis_report.Statement.{statement}
 use Rattle.report.proofs.tarungkis_report.Tie as tie
 
@@ -8,19 +8,14 @@ tarungkis-report-spec =
     tie.close
     (tie.spec
     (λ c. search (too-short, needs))
-    (λ c. search needs)
-    (λ c. search needs)
-    (λ c. search needs)
     (λ c κs. search needs)
     (λ c. search needs)
     (λ c. search needs)
     (λ c. search (begun-within, needs))
     (λ c. search needs)
     (λ c. search (begun-full, needs))
-    (λ c κs. search (begun-placed, needs))
-    (λ c. search needs)
-    (λ c. search needs)
-    (λ c. search needs)
+    (λ c. search (table-within, needs))
+    (λ c. search (table-long, needs))
     (λ c κs. search (begun-starting, needs))
     (λ c. search needs)
     (λ c. search (refused-reported, needs))

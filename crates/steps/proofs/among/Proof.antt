@@ -20,6 +20,7 @@ among-spec =
     (λ c. search needs)
     (λ c. search needs)
     (λ c. search needs)
+    (λ c κs. search needs)
     (λ c. search (among-here, needs))
     (λ c. search needs)
     (λ c. search (among-more, needs))

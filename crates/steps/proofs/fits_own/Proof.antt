@@ -9,7 +9,6 @@ fits-own-spec =
     (tie.spec
     (λ c κs. search needs)
     (λ c. search (fits-any, needs))
-    (λ c. search needs)
-    (λ c. search needs)
+    (λ c κs. search needs)
     (λ c κs. search needs)
     (λ c. search (fits-none, needs)))

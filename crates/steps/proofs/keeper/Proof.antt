@@ -1,15 +1,15 @@
 use Rattle.steps.proofs.ScanLaws.{Back, valid-at, back-low, keeper-end, keeper-here, keeper-more}
-use Rattle.format.specs.Bytes.{trace}
-use Rattle.model.specs.Grid.{keeper}
+use Rattle.table.specs.Table.{trace}
+use Rattle.decision.specs.Grid.{keeper}
 use borrow.Author.Needs.{needs}
 use Rattle.steps.proofs.keeper.Statement.{statement}
 use Rattle.steps.proofs.keeper.Tie as tie
 
 abbrev Inv-loop : tie.InvT-loop
-Inv-loop ev released list upto lock i₀ i = Back (keeper (trace ev) lock) list upto i
+Inv-loop table list upto lock i₀ i = Back (keeper (trace table) lock) list upto i
 
 abbrev μ-loop : tie.MeasureT-loop
-μ-loop ev released list upto lock i₀ i = i
+μ-loop table list upto lock i₀ i = i
 
 pub keeper-spec : {M : Type 1} → statement M
 keeper-spec =

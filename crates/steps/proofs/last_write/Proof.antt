@@ -1,15 +1,15 @@
 use Rattle.steps.proofs.ScanLaws.{Back, valid-at, back-low, last-end, last-here, last-more}
-use Rattle.format.specs.Bytes.{trace}
+use Rattle.table.specs.Table.{trace}
 use Rattle.model.specs.Observed.{lastWrite}
 use borrow.Author.Needs.{needs}
 use Rattle.steps.proofs.last_write.Statement.{statement}
 use Rattle.steps.proofs.last_write.Tie as tie
 
 abbrev Inv-loop : tie.InvT-loop
-Inv-loop ev list upto cell i₀ i = Back (lastWrite (trace ev) cell) list upto i
+Inv-loop table list upto cell i₀ i = Back (lastWrite (trace table) cell) list upto i
 
 abbrev μ-loop : tie.MeasureT-loop
-μ-loop ev list upto cell i₀ i = i
+μ-loop table list upto cell i₀ i = i
 
 pub last-write-spec : {M : Type 1} → statement M
 last-write-spec =

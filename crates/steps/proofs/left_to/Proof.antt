@@ -7,8 +7,6 @@ pub left-to-spec : {M : Type 1} → statement M
 left-to-spec =
     tie.close
     (tie.spec
-    (λ c. search needs)
-    (λ c. search needs)
     (λ c κs. search needs)
     (λ c. search (left-nobody, needs))
     (λ c κs. search needs)

@@ -1,6 +1,6 @@
 use Rattle.steps.proofs.ScanLaws.{Ahead, valid-at, pending-end, pending-write, pending-bad, pending-more}
-use Rattle.format.specs.Bytes.{trace}
-use Rattle.model.specs.Grid.{sawOther}
+use Rattle.table.specs.Table.{trace}
+use Rattle.decision.specs.Grid.{sawOther}
 use lib.ListN.{length}
 use Prim.Native.Nat.{_-_}
 use borrow.Author.Needs.{needs}
@@ -8,10 +8,10 @@ use Rattle.steps.proofs.pending_other.Statement.{statement}
 use Rattle.steps.proofs.pending_other.Tie as tie
 
 abbrev Inv-loop : tie.InvT-loop
-Inv-loop ev observed list from cell moved side i₀ i = Ahead (trace ev) cell (sawOther (trace ev) moved side) list from i
+Inv-loop table list from cell moved side i₀ i = Ahead (trace table) cell (sawOther (trace table) moved side) list from i
 
 abbrev μ-loop : tie.MeasureT-loop
-μ-loop ev observed list from cell moved side i₀ i = length list - i
+μ-loop table list from cell moved side i₀ i = length list - i
 
 pub pending-other-spec : {M : Type 1} → statement M
 pending-other-spec =

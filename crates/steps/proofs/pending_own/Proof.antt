@@ -1,6 +1,6 @@
 use Rattle.steps.proofs.ScanLaws.{Ahead, valid-at, pending-end, pending-write, pending-bad, pending-more}
-use Rattle.format.specs.Bytes.{trace}
-use Rattle.model.specs.Grid.{sawNone, passed}
+use Rattle.table.specs.Table.{trace}
+use Rattle.decision.specs.Grid.{sawNone, passed}
 use lib.ListN.{length}
 use Prim.Native.Nat.{_-_}
 use borrow.Author.Needs.{needs}
@@ -8,10 +8,10 @@ use Rattle.steps.proofs.pending_own.Statement.{statement}
 use Rattle.steps.proofs.pending_own.Tie as tie
 
 abbrev Inv-loop : tie.InvT-loop
-Inv-loop ev observed list from cell other upto i₀ i = Ahead (trace ev) cell (sawNone (trace ev) (passed other upto)) list from i
+Inv-loop table list from cell other upto i₀ i = Ahead (trace table) cell (sawNone (trace table) (passed other upto)) list from i
 
 abbrev μ-loop : tie.MeasureT-loop
-μ-loop ev observed list from cell other upto i₀ i = length list - i
+μ-loop table list from cell other upto i₀ i = length list - i
 
 pub pending-own-spec : {M : Type 1} → statement M
 pending-own-spec =

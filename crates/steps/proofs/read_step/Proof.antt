@@ -11,6 +11,5 @@ read-step-spec =
     (λ c. search (read-free, needs))
     (λ c κs. search needs)
     (λ c κs. search needs)
-    (λ c. search needs)
-    (λ c. search needs)
+    (λ c κs. search needs)
     (λ c. search (read-last, needs)))

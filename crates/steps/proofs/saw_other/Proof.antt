@@ -7,8 +7,6 @@ pub saw-other-spec : {M : Type 1} → statement M
 saw-other-spec =
     tie.close
     (tie.spec
-    (λ c. search needs)
-    (λ c. search needs)
     (λ c κs. search needs)
     (λ c. search (saw-start, needs))
     (λ c κs. search (saw-valid, needs))

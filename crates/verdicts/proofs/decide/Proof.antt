@@ -1,6 +1,5 @@
 use borrow.Author.Needs.{needs}
-use Rattle.links.proofs.TableLaws.{tables-room}
-use Rattle.verdicts.proofs.VerdictLaws.{pair-asked, none-shown, one-shown}
+use Rattle.verdicts.proofs.VerdictLaws.{pair-lent, none-shown, one-shown}
 use Rattle.verdicts.proofs.decide.Statement.{statement}
 use Rattle.verdicts.proofs.decide.Tie as tie
 
@@ -9,14 +8,7 @@ decide-spec =
     tie.close
     (tie.spec
     (λ c κs. search needs)
-    (λ c. search needs)
-    (λ c. search needs)
-    (λ c. search needs)
-    (λ c κs. search (tables-room, needs))
-    (λ c. search needs)
-    (λ c. search needs)
-    (λ c. search needs)
-    (λ c κs. search (pair-asked, needs))
+    (λ c κs. search (pair-lent, needs))
     (λ c. search needs)
     (λ c. search needs)
     (λ c. search needs)

@@ -1,6 +1,5 @@
 use borrow.Author.Needs.{needs}
-use Rattle.verdicts.proofs.AreaLaws.{area-long, front-bytes}
-use Rattle.verdicts.proofs.VerdictLaws.{area-refused, pair-decidable, pair-decided}
+use Rattle.verdicts.proofs.VerdictLaws.{area-long, front-bytes, area-refused, pair-decidable, pair-decided}
 use Rattle.verdicts.proofs.verdict_with.Statement.{statement}
 use Rattle.verdicts.proofs.verdict_with.Tie as tie
 

@@ -1,3 +1,0 @@
--- The rest of a report, block by block.
-pub mod Rest
-pub mod Writing

@@ -1,0 +1,16 @@
+use borrow.Author.Needs.{needs}
+use Rattle.checking.proofs.PassLaws.{number-low, number-high, number-valid, not-next, access}
+use Rattle.checking.proofs.fault_at.Statement.{statement}
+use Rattle.checking.proofs.fault_at.Tie as tie
+
+pub fault-at-spec : {M : Type 1} → statement M
+fault-at-spec =
+    tie.close
+    (tie.spec
+    (λ c. search number-low)
+    (λ c κs. search needs)
+    (λ c. search (number-high, needs))
+    (λ c κs. search (number-valid, needs))
+    (λ c. search (not-next, number-valid, needs))
+    (λ c κs. search (number-valid, needs))
+    (λ c. search (access, needs)))

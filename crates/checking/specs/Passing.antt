@@ -1,0 +1,37 @@
+-- What the pass over a proposed list keeps of the events that have been passed, and what its parts say by it.
+use Prim.Native.Nat.{ℕ}
+use mathlib.Core.Path.{_≡_}
+use mathlib.Core.Bool.{Bool, true}
+use mathlib.Core.List.{List, _∷_, reverse}
+use Rattle.model.specs.Trace.{Trace}
+use Rattle.model.specs.Observed.{lastWrite}
+use Rattle.model.specs.Good.{maxThread, maxObject, holder}
+use Rattle.model.specs.Reordering.{Correct}
+use Rattle.decision.specs.Check.{isNext, placeFault}
+use Rattle.table.specs.Links.{lastOf}
+use Rattle.table.specs.Entries.{Entries}
+
+-- what is kept: the last event of each thread, the last write of each cell and the holder of each lock, in the history of a correct reordering
+pub record Knows (t : Trace) (h last writes locks : List ℕ) : Type 0 where
+  pub correct : Correct t (reverse h)
+  pub threads : Entries (lastOf t h) maxThread last
+  pub cells : Entries (λ x. lastWrite t x h) maxObject writes
+  pub holders : Entries (λ x. holder t x h) maxObject locks
+
+-- ---- what the parts say, whatever the history that the lists are of
+
+-- is event k the next of its thread?
+pub record NextTold (t : Trace) (last : List ℕ) (k : ℕ) (r : Bool) : Type 0 where
+  pub is : (h writes locks : List ℕ) → Knows t h last writes locks → r ≡ isNext t h k
+
+-- the fault of an event that is
+pub record AccessTold (t : Trace) (writes locks : List ℕ) (k r : ℕ) : Type 0 where
+  pub is : (h last : List ℕ) → Knows t h last writes locks → isNext t h k ≡ true → r ≡ placeFault t h k
+
+-- the fault of any number
+pub record FaultTold (t : Trace) (last writes locks : List ℕ) (k r : ℕ) : Type 0 where
+  pub is : (h : List ℕ) → Knows t h last writes locks → r ≡ placeFault t h k
+
+-- event k, which has no fault, goes into the lists: they know one event more
+pub record KnowsMore (t : Trace) (k : ℕ) (last writes locks last′ writes′ locks′ : List ℕ) : Type 0 where
+  pub knows : (h : List ℕ) → Knows t h last writes locks → placeFault t h k ≡ 0 → Knows t (k ∷ h) last′ writes′ locks′

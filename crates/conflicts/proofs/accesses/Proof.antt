@@ -1,7 +1,0 @@
-use borrow.Author.Needs.{needs}
-use Rattle.conflicts.proofs.ConflictLaws.{write-read, write-other, read-other, other-kind}
-use Rattle.conflicts.proofs.accesses.Statement.{statement}
-use Rattle.conflicts.proofs.accesses.Tie as tie
-
-pub accesses-spec : {M : Type 1} → statement M
-accesses-spec = tie.close (tie.spec (λ c. search (write-read, needs)) (λ c. search (write-other, needs)) (λ c. search (read-other, needs)) (λ c. search (other-kind, needs)))

@@ -1,0 +1,60 @@
+-- The check of a proposed list, computed.
+use Prim.Native.Nat.{ℕ, zero, suc}
+use mathlib.Core.Bool.{Bool, true, false, _&&_, _||_, not}
+use mathlib.Core.List.{List, [], _∷_, reverse}
+use lib.ListN.{length}
+use lib.Dec.{eqb, leb}
+use Rattle.model.specs.Trace.{Trace, read, acquire, threadOf, kindOf, objectOf}
+use Rattle.model.specs.Lists.{own, before}
+use Rattle.model.specs.Observed.{lastWrite, observed}
+use Rattle.model.specs.Good.{holder}
+use Rattle.model.specs.Rows.{first, orZero}
+
+unfoldable pub sameList : List ℕ → List ℕ → Bool
+sameList [] [] = true
+sameList [] (y ∷ r) = false
+sameList (x ∷ l) [] = false
+sameList (x ∷ l) (y ∷ r) = eqb x y && sameList l r
+
+-- the tests of the rules, for event k after the history h
+unfoldable pub isValid : Trace → ℕ → Bool
+isValid t k = leb 1 k && leb k (length t)
+
+unfoldable pub isNext : Trace → List ℕ → ℕ → Bool
+isNext t h k = isValid t k && sameList (own t (threadOf t k) h) (own t (threadOf t k) (before k))
+
+unfoldable pub isSeen : Trace → List ℕ → ℕ → Bool
+isSeen t h k = eqb (lastWrite t (objectOf t k) h) (observed t k)
+
+-- thread c may acquire a lock with this holder: nobody, or c itself
+abbrev pub isOpen : ℕ → ℕ → Bool
+isOpen c o = eqb o 0 || eqb o (suc c)
+
+unfoldable pub isFree : Trace → List ℕ → ℕ → Bool
+isFree t h k = isOpen (threadOf t k) (holder t (objectOf t k) h)
+
+-- the rows' tests at one place, and the fault there, 0 for none
+unfoldable pub placeTests : Trace → List ℕ → ℕ → List Bool
+placeTests t h k =
+    not (isValid t k) ∷ not (isNext t h k) ∷ (eqb (kindOf t k) read && not (isSeen t h k)) ∷ (eqb (kindOf t k) acquire && not (isFree t h k)) ∷ []
+
+unfoldable pub placeFault : Trace → List ℕ → ℕ → ℕ
+placeFault t h k = orZero (first (placeTests t h k) (21 ∷ 22 ∷ 23 ∷ 24 ∷ []))
+
+-- the first of two faults
+abbrev pub firstOf : ℕ → ℕ → ℕ
+firstOf zero g = g
+firstOf (suc f) g = suc f
+
+-- the first fault of a list by place
+unfoldable pub faultFrom : Trace → List ℕ → List ℕ → ℕ
+faultFrom t h [] = 0
+faultFrom t h (k ∷ ρ) = firstOf (placeFault t h k) (faultFrom t (k ∷ h) ρ)
+
+-- enabled after the whole list
+unfoldable pub isEnabled : Trace → List ℕ → ℕ → Bool
+isEnabled t ρ k = isNext t (reverse ρ) k
+
+-- the check's answer, 0 for yes
+unfoldable pub check : Trace → ℕ → ℕ → List ℕ → ℕ
+check t a b ρ = firstOf (faultFrom t [] ρ) (orZero (first (not (isEnabled t ρ a) ∷ not (isEnabled t ρ b) ∷ []) (25 ∷ 26 ∷ [])))

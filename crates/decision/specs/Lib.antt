@@ -1,0 +1,6 @@
+pub mod Check
+pub mod Refusals
+pub mod Rounds
+pub mod Grid
+pub mod Decision
+pub mod StaysTrue

@@ -1,3 +1,0 @@
-pub mod NextLaws
-pub mod PlaceLaws
-pub mod PassLaws

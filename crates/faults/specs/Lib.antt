@@ -1,2 +1,0 @@
--- The check of a list, place by place.
-pub mod Passing

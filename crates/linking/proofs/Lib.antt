@@ -1,2 +1,0 @@
--- The ways through a step
-pub mod StepLaws

@@ -1,2 +1,0 @@
--- A step of the pass that finds observed writes.
-pub mod Step

@@ -1,2 +1,0 @@
--- The next race, handed out with its witness.
-pub mod Listed

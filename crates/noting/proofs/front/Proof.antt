@@ -1,7 +1,0 @@
-use Rattle.noting.proofs.NoteLaws.{front-length}
-use borrow.Author.Needs.{needs}
-use Rattle.noting.proofs.front.Statement.{statement}
-use Rattle.noting.proofs.front.Tie as tie
-
-pub front-spec : {M : Type 1} → statement M
-front-spec = tie.close (tie.spec (λ c. search (front-length, needs)) (λ c. search needs))

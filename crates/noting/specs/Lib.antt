@@ -1,2 +1,0 @@
--- The answer to question 6, as a definition over the two lent slices.
-pub mod Note

@@ -1,0 +1,2 @@
+-- A file opened: its table, or its refusal.
+pub mod Opening

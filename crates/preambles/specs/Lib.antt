@@ -1,2 +1,0 @@
--- Which bytes a preamble may hold.
-pub mod Readable

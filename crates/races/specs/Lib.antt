@@ -1,0 +1,3 @@
+-- A conflicting pair, its witness in a lent list, and the next race with its witness.
+pub mod Witness
+pub mod Next

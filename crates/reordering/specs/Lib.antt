@@ -1,2 +1,0 @@
--- The check of a proposed list.
-pub mod Asked

@@ -1,0 +1,23 @@
+use borrow.Author.Needs.{needs}
+use Rattle.report.proofs.WritingLaws.{line-ended, race-room, count-fits, line-more}
+use Rattle.report.proofs.line.Statement.{statement}
+use Rattle.report.proofs.line.Tie as tie
+
+pub line-spec : {M : Type 1} → statement M
+line-spec =
+    tie.close
+    (tie.spec
+    (λ c κs. search needs)
+    (λ c. search needs)
+    (λ c κs. search needs)
+    (λ c. search needs)
+    (λ c κs. search (race-room, needs))
+    (λ c. search (count-fits, needs))
+    (λ c. search needs)
+    (λ c. search needs)
+    (λ c. search needs)
+    (λ c. search (line-ended, needs))
+    (λ c. search needs)
+    (λ c. search needs)
+    (λ c. search needs)
+    (λ c. search (line-more, needs)))

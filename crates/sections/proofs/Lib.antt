@@ -1,3 +1,0 @@
--- The ways through each step
-pub mod CountLaws
-pub mod CloseLaws

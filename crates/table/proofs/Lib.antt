@@ -1,0 +1,5 @@
+pub mod TableLaws
+pub mod LinkFacts
+pub mod EntryLaws
+-- The ways through the test of a conflicting pair
+pub mod ConflictLaws

@@ -1,0 +1,30 @@
+-- What each event is linked to.
+use Prim.Native.Nat.{ℕ}
+use mathlib.Core.Bool.{cond, _||_}
+use mathlib.Core.List.{List}
+use lib.Dec.{eqb}
+use Rattle.model.specs.Trace.{Trace, read, acquire, release, threadOf, kindOf}
+use Rattle.model.specs.Lists.{before, nearest, is}
+use Rattle.model.specs.Observed.{observed}
+use Rattle.model.specs.Sections.{ownDepth, isLast}
+use Rattle.model.specs.Cone.{matching}
+
+-- the last event of thread c in a history; 0 where there is none
+abbrev pub lastOf : Trace → List ℕ → ℕ → ℕ
+lastOf t h c = nearest (λ j. is c (threadOf t j)) h
+
+-- the event before k in its thread
+unfoldable pub previous : Trace → ℕ → ℕ
+previous t k = lastOf t (before k) (threadOf t k)
+
+-- the observed write of a read, 0 where it sees the start; 0 for every other event
+unfoldable pub observedBy : Trace → ℕ → ℕ
+observedBy t k = cond (eqb (kindOf t k) read) (observed t k) 0
+
+-- how deep its thread holds its lock just before an acquire or release; 0 for every other event
+unfoldable pub lockDepth : Trace → ℕ → ℕ
+lockDepth t k = cond (eqb (kindOf t k) acquire || eqb (kindOf t k) release) (ownDepth t k) 0
+
+-- where the section ends that event k begins or ends: the matching release of an outermost acquire, a last release itself; 0 where there is none, and for every other event
+unfoldable pub releaseOf : Trace → ℕ → ℕ
+releaseOf t k = cond (isLast t k) k (matching t k)
