@@ -1,4 +1,6 @@
-// The answers to questions 2 to 6, as text, and what is left of the lists and areas that they borrow.
+// The answers to questions 2 to 6 and of the writer, as text, and what is left of the lists and areas that they borrow.
+pub mod writer;
+
 use limits::Recording;
 use limits::Refusal;
 use questions::Check;

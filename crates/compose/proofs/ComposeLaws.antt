@@ -7,11 +7,10 @@ use mathlib.Core.List.{List}
 use lib.ListN.{length, take, drop, length-append}
 use Rattle.model.specs.Trace.{Trace, threadList, kindList, objectList}
 use Rattle.model.specs.Lists.{inFront}
-use Rattle.limits.specs.Limits.{eventBytes}
 use Rattle.limits.specs.declared.Refusal.{Refusal}
 use Rattle.limits.specs.Refusals.{settled}
 use Rattle.appending.specs.Appended.{Appends}
-use Rattle.writing.specs.Written.{written}
+use Rattle.writing.specs.Written.{fileWith}
 use Rattle.writing.proofs.ListLaws.{lists-back, lists-even}
 use Rattle.composing.specs.Texts.{lines, joined, Makes, ReadsText, good, bad-line as bad-text}
 use Rattle.composing.specs.declared.Text.{Text}
@@ -86,7 +85,7 @@ module _ {text file file′ : List ℕ} where
   recording-within (bad-line x q) n e = let o : _≡_ {A = ℕ} 0 1 = cc in absurd (omega arith)
   recording-within (refused m ea q) n e = let o : _≡_ {A = ℕ} 0 1 = cc in absurd (omega arith)
   recording-within (recording {notes = notes} {es = es} {n = k} m q) n e =
-      let s = written eventBytes (joined notes) es in
+      let s = fileWith (joined notes) es in
       let h = by-refusal (handRefusal s file) s file file′ k q in
       let z : k ≡ n = cc in
       omega arith

@@ -4,9 +4,8 @@ use mathlib.Core.Path.{_≡_}
 use mathlib.Core.List.{List}
 use lib.ListN.{length}
 use Rattle.model.specs.Trace.{Trace}
-use Rattle.limits.specs.Limits.{eventBytes}
 use Rattle.limits.specs.declared.Refusal.{Refusal}
-use Rattle.writing.specs.Written.{written}
+use Rattle.writing.specs.Written.{fileWith}
 use Rattle.composing.specs.Texts.{lines, joined, Makes, FirstBad}
 use Rattle.writing.specs.Writing.{handed, answerWrite}
 use Rattle.writing.specs.declared.Written.{Written}
@@ -20,7 +19,7 @@ textBytes = 32768
 
 -- what the writer gives for the recording with this preamble and these events, and the lent file after it
 abbrev pub recorded : List ℕ → Trace → List ℕ → Written × List ℕ
-recorded p es file = handed (written eventBytes p es) file
+recorded p es file = handed (fileWith p es) file
 
 -- what each answer means: the first bad line, and the lent file is as it was; or the lines make a recording, which the writer refuses or writes
 pub data Composes (text file file′ : List ℕ) : Composed → Type 0 where

@@ -39,6 +39,10 @@ preamble s = take (start s) s
 unfoldable pub eventPart : ℕ → List ℕ → List ℕ
 eventPart z s = take (z * count s) (drop (start s) s)
 
+-- the same at the size that events have
+abbrev pub partOf : List ℕ → List ℕ
+partOf s = eventPart eventBytes s
+
 -- the events of a file, of z bytes each
 unfoldable pub events : ℕ → List ℕ → Trace
 events z s = traceOf z (eventPart z s)

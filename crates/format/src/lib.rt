@@ -9,7 +9,7 @@ ghost use lib.ListN.{length};
 ghost use Rattle.model.specs.Trace.{Valid, at, threadOf, kindOf, objectOf};
 ghost use Rattle.limits.specs.Limits.{eventBytes};
 ghost use Rattle.format.specs.Bytes.{number16, number32, trace, plain};
-ghost use Rattle.format.specs.Layout.{Sized, Counted, isMarked, layoutRefusal, fileOf, Placed, eventPart};
+ghost use Rattle.format.specs.Layout.{Sized, Counted, isMarked, layoutRefusal, fileOf, Placed, partOf};
 ghost use Rattle.format.specs.Readable.{isReadableByte, isReadable};
 
 // A byte of a preamble.
@@ -142,7 +142,7 @@ pub fn read(file: &[u8]) -> File
 // The bytes of the events of a file that has been read.
 pub fn events<'a>(file: &'a [u8], t: Recording) -> &'a [u8]
     requires { ⌜ Placed (now file) t ⌝ }
-    ensures { λ r. ⌜ now r ≡ eventPart eventBytes (now (file .entry)) ⌝ }
+    ensures { λ r. ⌜ now r ≡ partOf (now (file .entry)) ⌝ }
 {
     let start = t.start;
     let end = file.len() - Recording::TRAILER_BYTES;

@@ -6,10 +6,9 @@ use limits::Recording;
 use limits::Refusal;
 ghost use mathlib.Core.Path.{_≡_};
 ghost use Rattle.model.specs.Refusals.{InLimits};
-ghost use Rattle.limits.specs.Limits.{eventBytes};
 ghost use Rattle.format.specs.Bytes.{trace};
 ghost use Rattle.format.specs.Layout.{Placed, fileOf};
-ghost use Rattle.judging.specs.Judged.{fileRefusal};
+ghost use Rattle.judging.specs.Judged.{refusalOf};
 ghost use Rattle.judging.specs.Walk.{Ready, effectOf};
 
 // What an event does: nothing to a lock, or its lock now has this holder at this depth, or it is refused.
@@ -27,8 +26,7 @@ fn lock_effect<'a>(
     holder: &'a [u8; Event::OBJECTS],
     depth: &'a [u16; Event::OBJECTS],
 ) -> Effect
-    requires { ⌜ Ready (trace (now ev)) k (now holder) (now depth) ⌝ }
-    requires { ⌜ InLimits (trace (now ev)) k ⌝ }
+    requires { ⌜ Ready (trace (now ev)) k (now holder) (now depth) × InLimits (trace (now ev)) k ⌝ }
     ensures { λ r. ⌜ r ≡ effectOf (trace (now (ev .entry))) k ⌝ }
 {
     let e = format::event_at(ev, k);
@@ -47,7 +45,6 @@ fn lock_effect<'a>(
         if held == own {
             return Effect::Hold(own, deeper);
         }
-        // another thread holds it
         return Effect::Refused(Refusal::LockHeld(number));
     }
     if e.kind == Event::RELEASE {
@@ -91,7 +88,7 @@ fn effect_at<'a>(
 // Refusals 5 to 9, event by event, of a file that has been read.
 fn judge_events(file: &[u8], t: Recording) -> File
     requires { ⌜ Placed (now file) t ⌝ }
-    ensures { λ r. ⌜ r ≡ fileOf (now (file .entry)) (fileRefusal eventBytes (now (file .entry))) ⌝ }
+    ensures { λ r. ⌜ r ≡ fileOf (now (file .entry)) (refusalOf (now (file .entry))) ⌝ }
 {
     let ev = format::events(file, t);
     let n = format::count(ev);
@@ -117,7 +114,7 @@ fn judge_events(file: &[u8], t: Recording) -> File
 
 // Refusals 1 to 4, 13 and 5 to 9: what every question asks of a file first.
 pub fn judge(file: &[u8]) -> File
-    ensures { λ r. ⌜ r ≡ fileOf (now (file .entry)) (fileRefusal eventBytes (now (file .entry))) ⌝ }
+    ensures { λ r. ⌜ r ≡ fileOf (now (file .entry)) (refusalOf (now (file .entry))) ⌝ }
 {
     match format::read(file) {
         File::Refused(r) => File::Refused(r),

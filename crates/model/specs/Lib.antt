@@ -1,7 +1,6 @@
 pub mod Trace
 pub mod Lists
 pub mod Observed
-pub mod LastWrite
 pub mod Rows
 pub mod Good
 pub mod Reordering

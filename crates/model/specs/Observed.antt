@@ -14,16 +14,16 @@ lastWrite t x h = nearest (λ k. does t write x k) h
 unfoldable pub observed : Trace → ℕ → ℕ
 observed t k = lastWrite t (objectOf t k) (before k)
 
--- ---- the same in words
+-- ---- the last write of any cell, in words. The observed write of a read is that of its own cell
 
--- w is a write of event k's cell before it, and no write of that cell stands between them
-pub record LastBefore (t : Trace) (k w : ℕ) : Type 0 where
+-- no event after j and before k writes cell x
+abbrev pub Unwritten : Trace → ℕ → ℕ → ℕ → Type 0
+Unwritten t x j k = (i : ℕ) → j < i → i < k → kindOf t i ≡ write → objectOf t i ≢ x
+
+-- w is a write of cell x before event k, and no write of that cell stands between them
+pub record LastBefore (t : Trace) (x k w : ℕ) : Type 0 where
   pub positive : 1 ≤ w
   pub earlier : w < k
   pub writes : kindOf t w ≡ write
-  pub cell : objectOf t w ≡ objectOf t k
-  pub last : (j : ℕ) → w < j → j < k → kindOf t j ≡ write → objectOf t j ≢ objectOf t k
-
--- no event before k writes its cell
-abbrev pub SeesStart : Trace → ℕ → Type 0
-SeesStart t k = (j : ℕ) → 1 ≤ j → j < k → kindOf t j ≡ write → objectOf t j ≢ objectOf t k
+  pub cell : objectOf t w ≡ x
+  pub last : Unwritten t x w k

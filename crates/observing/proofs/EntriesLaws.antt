@@ -8,7 +8,7 @@ use lib.Dec.{eqb, ltb}
 use lib.Seq.{ext-getD, getD-append-add, getD-drop, getD-set-same, getD-set-other}
 use borrow.Author.Tests.{eqb-true, eqb-false, ne-eqb, ltb-true, ltb-false, eq-eqb, lt-leb, le-leb}
 use Rattle.model.specs.Trace.{Trace, read, kindOf, Valid}
-use Rattle.model.specs.Lists.{numbers}
+use Rattle.model.specs.Lists.{numbers, inFront}
 use Rattle.model.specs.Observed.{observed}
 use Rattle.model.specs.Good.{Good}
 use Rattle.model.proofs.Tests.{by-cases, kind-valid}
@@ -110,16 +110,19 @@ module _ (t : Trace) (l : List ℕ) where
   length-entries = rw numbers-after (let e = length-after (entryAt t) (length t) 0 in omega arith)
 
   front : (k : ℕ) → k < length t + 1 → getD (withEntries t l) k 0 ≡ entryAt t k
+  unfolding inFront
   front zero h = refl
-  front (suc k) h = rw numbers-after (getD-after (entryAt t) (length t) 0 k (drop (length t + 1) l) (omega arith) ∙ ap (entryAt t) (omega arith))
+  front (suc k) h = rw numbers-after (getD-after (entryAt t) (length t) 0 k _ (omega arith) ∙ ap (entryAt t) (omega arith))
 
   behind : (i : ℕ) → getD (withEntries t l) (length t + 1 + i) 0 ≡ getD l (length t + 1 + i) 0
+  unfolding inFront
   behind i = rw (← length-entries) (getD-append-add (entries t) (drop (length (entries t)) l) i 0 ∙ getD-drop (length (entries t)) l i 0)
 
   pub entries-filled : length t < length l → Filled (entryAt t) (length t + 1) l (withEntries t l)
+  unfolding inFront
   entries-filled h =
       record {
-        long = length-append (entries t) (drop (length t + 1) l) ∙ (let a = length-entries in let b = length-drop (length t + 1) l in omega arith);
+        long = length-append (entries t) (drop (length (entries t)) l) ∙ (let a = length-entries in let b = length-drop (length (entries t)) l in omega arith);
         is = front;
         kept = λ k o. let i : k ≡ length t + 1 + (k - (length t + 1)) = omega arith in rw i (behind (k - (length t + 1)));
       }

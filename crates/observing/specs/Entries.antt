@@ -1,13 +1,13 @@
 -- All of question 2's answers on the events of a good file at once: entry k of a lent list is the answer for number k.
-use Prim.Native.Nat.{ℕ, _+_, _≤_, _<_}
+use Prim.Native.Nat.{ℕ, _≤_, _<_}
 use mathlib.Core.Path.{_≡_}
 use mathlib.Core.Bool.{cond}
 use mathlib.Core.Option.{Option}
-use mathlib.Core.List.{List, [], _∷_, map, _++_}
-use lib.ListN.{length, getD, drop}
+use mathlib.Core.List.{List, [], _∷_, map}
+use lib.ListN.{length, getD}
 use lib.Dec.{eqb, leb}
 use Rattle.model.specs.Trace.{Trace, read, kindOf}
-use Rattle.model.specs.Lists.{numbers}
+use Rattle.model.specs.Lists.{numbers, inFront}
 use Rattle.model.specs.Observed.{observed}
 use Rattle.model.specs.Rows.{first, either}
 use Rattle.limits.specs.Refusals.{settled}
@@ -55,7 +55,7 @@ entries t = map (entryAt t) (0 ∷ numbers t)
 
 -- a lent list with these in its front, and the rest as it was
 abbrev pub withEntries : Trace → List ℕ → List ℕ
-withEntries t l = entries t ++ drop (length t + 1) l
+withEntries t l = inFront (entries t) l
 
 -- by the file's refusal f, if there is one, and its events; refusal 10 is for a list without an entry for each of the numbers 0 to n
 unfoldable pub observationsIn : Option Refusal → Trace → List ℕ → Observations × List ℕ

@@ -8,18 +8,17 @@ use lib.ListN.{length, take}
 use lib.Seq.{length-take-le}
 use Rattle.model.specs.Trace.{Trace}
 use Rattle.model.specs.Good.{Good}
-use Rattle.limits.specs.Limits.{eventBytes}
 use Rattle.limits.specs.declared.Refusal.{Refusal}
 use Rattle.limits.specs.declared.Recording.{Recording}
 use Rattle.format.specs.Bytes.{trace as recorded}
-use Rattle.format.specs.Layout.{eventPart, fileOf}
+use Rattle.format.specs.Layout.{fileOf, partOf}
 use Rattle.format.proofs.PartLaws.{part-trace}
 use Rattle.format.specs.declared.File.{File}
 use Rattle.format.specs.declared.File.the-variants.{Refused as FileRefused, Good as FileGood}
 use Rattle.judging.specs.Judged.{eventsOf, refusalOf}
 use Rattle.judging.proofs.FileLaws.{judged-refused, judged-clean}
 use Rattle.table.specs.Table.{trace, Linked}
-use Rattle.links.specs.Filling.{Built}
+use Rattle.opening.specs.Filling.{Built}
 use Rattle.opening.specs.Opening.{Opens, opens-refused, opens-table}
 use Rattle.opening.specs.declared.Opened.{Opened}
 use Rattle.opening.specs.declared.Opened.the-variants.{Refused, Words}
@@ -28,7 +27,7 @@ module _ (s : List ℕ) (f : File) (is : f ≡ fileOf s (refusalOf s)) where
   pub open-refused : (r : Refusal) → f ≡ FileRefused r → (area : List ℕ) → Opens (refusalOf s) (eventsOf s) area area (Refused r)
   open-refused r e area = opens-refused (judged-refused s f is r e) refl
 
-  pub open-table : (t : Recording) → f ≡ FileGood t → (ev : List ℕ) → ev ≡ eventPart eventBytes s → (area : List ℕ) {area′ : List ℕ} {n : ℕ} → Built (recorded ev) n area′
+  pub open-table : (t : Recording) → f ≡ FileGood t → (ev : List ℕ) → ev ≡ partOf s → (area : List ℕ) {area′ : List ℕ} {n : ℕ} → Built (recorded ev) n area′
       → Opens (refusalOf s) (eventsOf s) area area′ (Words n)
   open-table t e ev part area b = opens-table (judged-clean s f is t e) (rw (part-trace s ev part) at b)
 

@@ -5,7 +5,7 @@ use mathlib.Core.Option.{Option, none, some}
 use mathlib.Core.List.{List}
 use Rattle.model.specs.Trace.{Trace}
 use Rattle.limits.specs.declared.Refusal.{Refusal}
-use Rattle.links.specs.Filling.{Built}
+use Rattle.opening.specs.Filling.{Built}
 use Rattle.opening.specs.declared.Opened.{Opened}
 use Rattle.opening.specs.declared.Opened.the-variants.{Refused, Words}
 

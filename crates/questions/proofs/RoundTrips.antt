@@ -18,7 +18,7 @@ use Rattle.judging.specs.Judged.{IsGoodFile, eventsOf, rowsOfFile}
 use Rattle.judging.proofs.FileLaws.{meaning, quiet-file}
 use Rattle.questions.specs.Note.{Slice, ownNote, own-note, lent-note, answerNote}
 use Rattle.questions.proofs.AnswersExact.{note-exactly}
-use Rattle.writing.specs.Written.{written, traceFrom}
+use Rattle.writing.specs.Written.{traceFrom, fileWith}
 use Rattle.writing.proofs.ListLaws.{lists-back, lists-even}
 use Rattle.writing.proofs.ReadsBack.{reads-back}
 use Rattle.writing.proofs.WritesAgain.{writes-again, plain-today}
@@ -33,18 +33,18 @@ use Rattle.questions.specs.RoundTrips.{AnswersFor, WhatIsWritten, WhatIs
 -- ---- what is written
 
 -- a good file whose bytes are those of p and t
-module _ (p : List ℕ) (t : Trace) (g : IsGoodFile (written eventBytes p t)) where
-  note-of : (file operator : Slice) → file .now ≡ written eventBytes p t → p ≢ [] → answerNote file operator ≡ record { begins = file .ptr; bytes = p }
+module _ (p : List ℕ) (t : Trace) (g : IsGoodFile (fileWith p t)) where
+  note-of : (file operator : Slice) → file .now ≡ fileWith p t → p ≢ [] → answerNote file operator ≡ record { begins = file .ptr; bytes = p }
   note-of file operator e ne =
       let b : preamble (file .now) ≡ p = ap preamble e ∙ reads-back eventBytes (omega arith) p t .same-preamble in
       note-exactly file operator (ownNote file) .1 (answers (quiet-file (file .now) .1 (rw e g)) (own-note (λ f. ne (sym b ∙ f))))
       ∙ ap (λ (l : List ℕ). record { begins = file .ptr; bytes = l }) b
 
-  answers-for : AnswersFor (written eventBytes p t) p t
+  answers-for : AnswersFor (fileWith p t) p t
   unfolding answerJudge
   answers-for = record {
     read = reads-back eventBytes (omega arith) p t;
-    judged = rw (meaning (written eventBytes p t) none .1 g, reads-back eventBytes (omega arith) p t .same-events);
+    judged = rw (meaning (fileWith p t) none .1 g, reads-back eventBytes (omega arith) p t .same-events);
     noted = note-of;
     lent = λ file operator e f. note-exactly file operator _ .1 (answers (quiet-file (file .now) .1 (rw e g)) (lent-note (ap preamble e ∙ reads-back eventBytes (omega arith) p t .same-preamble ∙ f)));
   }
@@ -73,7 +73,7 @@ pub what-is-read : WhatIsRead
 what-is-read s bytes g buffer h =
     let t = eventsOf s in
     let d : fileFrom (preamble s) (threadList t) (kindList t) (objectList t) ≡ s =
-    ap (written eventBytes (preamble s)) (lists-back t) ∙ writes-again eventBytes (omega arith) s bytes (g .layout) (plain-today s) in
+    ap (fileWith (preamble s)) (lists-back t) ∙ writes-again eventBytes (omega arith) s bytes (g .layout) (plain-today s) in
     let q : Quiet (writerRows (preamble s) (threadList t) (kindList t) (objectList t) buffer) =
     ((λ n. n (lists-even t)), rw d (quiet-both (rowsOfFile s) _ (quiet-file s .1 g) ((λ l. omega arith), tt))) in
     write-exactly (preamble s) (threadList t) (kindList t) (objectList t) buffer (Bytes (length s), inFront s buffer) .1 (answers q (ap (λ (x : List ℕ). wrote x buffer) d))

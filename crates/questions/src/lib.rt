@@ -34,7 +34,7 @@ pub fn judge(file: &[u8]) -> Judgement
         Opened::Refused(r) => Judgement::Refused(r),
         Opened::Words(n) => Judgement::Good {
             events: table::count(&rows[..n]) as u16,
-            threads: counting::threads(&rows[..n]),
+            threads: table::threads(&rows[..n]),
         },
     }
 }

@@ -13,7 +13,7 @@ use Rattle.limits.specs.Limits.{areaBytes}
 use Rattle.limits.specs.declared.Refusal.{Refusal}
 use Rattle.bits.specs.Marks.{Clear}
 use Rattle.table.specs.Table.{trace, Linked}
-use Rattle.links.specs.Filling.{Built}
+use Rattle.opening.specs.Filling.{Built}
 use Rattle.judging.specs.Judged.{eventsOf, refusalOf}
 use Rattle.lines.specs.Room.{lineBytes}
 use Rattle.report.specs.Rest.{raceLines, lastLine, rest, atStart}

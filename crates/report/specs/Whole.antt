@@ -9,7 +9,7 @@ use Rattle.model.specs.Lists.{inFront}
 use Rattle.limits.specs.declared.Refusal.{Refusal}
 use Rattle.judging.specs.Judged.{eventsOf, refusalOf}
 use Rattle.table.specs.Table.{Linked}
-use Rattle.links.specs.Filling.{Built}
+use Rattle.opening.specs.Filling.{Built}
 use Rattle.lines.specs.Room.{lineBytes, Room}
 use Rattle.report.specs.Rest.{lastLine, rest, atStart}
 use Rattle.report.specs.declared.Position.{Position}

@@ -54,7 +54,7 @@ fn first_line(table: &[u16], out: &mut [u8]) -> usize
     ensures { λ r. ⌜ r ≤ lineBytes ⌝ }
 {
     let events = table::count(table);
-    let threads = counting::threads(table);
+    let threads = table::threads(table);
     lines::events(out, 0, events as u16, threads)
 }
 

@@ -3,3 +3,5 @@ pub mod LinkFacts
 pub mod EntryLaws
 -- The ways through the test of a conflicting pair
 pub mod ConflictLaws
+-- The threads, counted
+pub mod ThreadLaws

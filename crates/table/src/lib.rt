@@ -5,6 +5,7 @@ ghost use mathlib.Core.Path.{_≡_};
 ghost use Prim.Native.Nat.{_≤_, _<_};
 ghost use lib.ListN.{length};
 ghost use Rattle.model.specs.Trace.{Valid, threadOf, kindOf, objectOf, does};
+ghost use Rattle.model.specs.Lists.{threads};
 ghost use Rattle.model.specs.Good.{Good, maxThread, maxObject};
 ghost use Rattle.table.specs.Links.{previous, observedBy, releaseOf};
 ghost use Rattle.decision.specs.Decision.{isConflicting};
@@ -197,4 +198,18 @@ pub fn set_word(table: &mut [u16], k: usize, c: usize, x: u16)
     ensures { λ _. ⌜ now (table .exit) ≡ withWord (now (table .entry)) k c x ⌝ }
 {
     table[WORDS * (k - 1) + c] = x;
+}
+
+// How many different threads have an event: the ones of a mask.
+pub fn threads(table: &[u16]) -> u32
+    requires { ⌜ Good (trace (now table)) ⌝ }
+    ensures { λ r. ⌜ r ≡ length (threads (trace (now (table .entry)))) ⌝ }
+{
+    let mut seen = 0u16;
+    let mut k = count(table);
+    while 0 < k {
+        seen = bits::include(seen, thread_at(table, k));
+        k -= 1;
+    }
+    u16::count_ones(seen)
 }

@@ -53,7 +53,7 @@ fn answer(line: &[u8], file: &mut [u8], n: usize) -> usize
         return n;
     }
     if kind == b'!' {
-        handing::ask_writer(line);
+        answers::writer::ask(line);
         return n;
     }
     let m = text::bytes(line, file);

@@ -12,7 +12,7 @@ use Rattle.model.specs.Trace.{noEvent}
 use Rattle.limits.specs.Limits.{eventBytes, trailerBytes, maxBytes, markFirst, markSecond}
 use Rattle.appending.specs.Appended.{Appends}
 use Rattle.appending.proofs.AppendLaws.{appends-nothing, appends-then}
-use Rattle.writing.specs.Written.{bytes16, bytes32, writtenEvent, writtenEvents, writtenTrailer, written, writtenBytes, traceFrom, Even, Fitting}
+use Rattle.writing.specs.Written.{bytes16, bytes32, writtenEvent, writtenEvents, writtenTrailer, written, writtenBytes, traceFrom, Even, Fitting, fileWith}
 use Rattle.writing.proofs.ListLaws.{from-length, from-at, events-then, events-length}
 
 module _ {at p r : ℕ} {out o₁ out′ : List ℕ} where
@@ -102,6 +102,6 @@ module _ {preamble threads kinds objects : List ℕ} (w : Fitting preamble threa
           omega arith
 
       pub file-put : {out′ : List ℕ} {r : ℕ} → Appends (writtenTrailer eventBytes (length threads)) q o₂ out′ r
-          → Appends (written eventBytes preamble (traceFrom threads kinds objects)) 0 out out′ r
+          → Appends (fileWith preamble (traceFrom threads kinds objects)) 0 out out′ r
       unfolding written
       file-put c = rw (from-length threads kinds objects (w .even)) (appends-then a (appends-then b c))

@@ -20,7 +20,7 @@ use Rattle.format.specs.Layout.{fileOf}
 use Rattle.format.proofs.LayoutExact.{true-sized}
 use Rattle.format.specs.declared.File.{File}
 use Rattle.format.specs.declared.File.the-variants.{Refused as FileRefused, Good as FileGood}
-use Rattle.judging.specs.Judged.{fileRefusal}
+use Rattle.judging.specs.Judged.{refusalOf}
 use Rattle.judging.proofs.FileLaws.{meaning, judged-refused, judged-clean}
 use Rattle.appending.specs.Appended.{Appends}
 use Rattle.writing.specs.Written.{writtenBytes, traceFrom, Even, Fitting}
@@ -74,7 +74,7 @@ module _ (p n : ℕ) where
 pub refused-no-bytes : (r : Refusal) (n : ℕ) → Refused r ≡ Bytes n → ⊥
 refused-no-bytes r n e = let z : _≡_ {A = ℕ} 0 1 = cc in omega arith
 
-module _ (s buffer : List ℕ) (f : File) (is : f ≡ fileOf s (fileRefusal eventBytes s)) where
+module _ (s buffer : List ℕ) (f : File) (is : f ≡ fileOf s (refusalOf s)) where
   pub hand-refused : (r : Refusal) → f ≡ FileRefused r → (Refused r, buffer) ≡ handed s buffer
   unfolding handed
   hand-refused r e = rw (judged-refused s f is r e)

@@ -13,13 +13,12 @@ use Rattle.model.specs.Trace.{Trace}
 use Rattle.model.specs.Good.{maxEvents}
 use Rattle.model.specs.Rows.{row, nothing, Answer, First, first, either}
 use Rattle.model.proofs.RowsExact.{not-exactly, tests-first, append-first}
-use Rattle.limits.specs.Limits.{eventBytes}
 use Rattle.limits.specs.Refusals.{paper}
 use Rattle.limits.proofs.PaperLaws.{refused-exactly, asked-exactly}
 use Rattle.limits.specs.declared.Refusal.the-variants.{ListShort}
 use Rattle.limits.specs.declared.Refusal.{Refusal}
 use Rattle.format.specs.Layout.{count, Sized}
-use Rattle.judging.specs.Judged.{fileRows, fileRefusal}
+use Rattle.judging.specs.Judged.{fileRows, fileRefusal, rowsOfFile}
 use Rattle.judging.proofs.JudgedExact.{file-first, file-exactly}
 use Rattle.judging.proofs.FileLaws.{question-first}
 use Rattle.writing.specs.Written.{written, writtenBytes, Even}
@@ -94,6 +93,6 @@ write-exactly p threads kinds objects buffer w =
     let after = row 10 nothing (length buffer < length file) ∷ [] in
     let uneven = not (isEven threads kinds objects) ∷ [] in
     asked-exactly (λ q x. Iff·rfl) (either (first uneven (ListShort ∷ [])) (handRefusal file buffer))
-    (append-first paper before (fileRows eventBytes file ++ after) (first uneven (ListShort ∷ [])) (handRefusal file buffer)
+    (append-first paper before (rowsOfFile file ++ after) (first uneven (ListShort ∷ [])) (handRefusal file buffer)
     (tests-first paper uneven (ListShort ∷ []) before (not-exactly (even-true threads kinds objects) (true-even threads kinds objects), tt) refl)
     (question-first file after (ltb (length buffer) (length file) ∷ []) (ListShort ∷ []) ((ltb-true (length buffer) (length file), lt-ltb (length buffer) (length file)), tt) refl)) w

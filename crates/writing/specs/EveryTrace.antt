@@ -4,9 +4,7 @@ use mathlib.Core.List.{List}
 use Prim.Native.Nat.{ℕ}
 use Rattle.model.specs.Trace.{Trace}
 use Rattle.model.specs.Good.{Good}
-use Rattle.limits.specs.Limits.{eventBytes}
-use Rattle.format.specs.Layout.{events}
-use Rattle.judging.specs.Judged.{GoodFile}
+use Rattle.judging.specs.Judged.{IsGoodFile, eventsOf}
 
 abbrev pub EveryGoodTrace : Type 0
-EveryGoodTrace = (t : Trace) → Good t → (s : List ℕ) × GoodFile eventBytes s × (events eventBytes s ≡ t)
+EveryGoodTrace = (t : Trace) → Good t → (s : List ℕ) × IsGoodFile s × (eventsOf s ≡ t)

@@ -11,13 +11,13 @@ use Rattle.model.specs.Lists.{inFront}
 use Rattle.model.specs.Good.{Good, maxEvents}
 use Rattle.model.specs.Rows.{Row, row, nothing, first, either}
 use Rattle.model.specs.Refusals.{traceRows}
-use Rattle.limits.specs.Limits.{eventBytes, maxBytes}
+use Rattle.limits.specs.Limits.{maxBytes}
 use Rattle.limits.specs.Refusals.{RefusedBy, Asked, settled}
 use Rattle.limits.specs.declared.Refusal.{Refusal}
 use Rattle.limits.specs.declared.Refusal.the-variants.{ListShort}
 use Rattle.format.specs.Readable.{Readable}
-use Rattle.judging.specs.Judged.{fileRows, fileRefusal}
-use Rattle.writing.specs.Written.{written, writtenBytes, traceFrom, Even}
+use Rattle.judging.specs.Judged.{refusalOf, rowsOfFile}
+use Rattle.writing.specs.Written.{writtenBytes, traceFrom, Even, fileWith}
 use Rattle.writing.specs.declared.Written.{Written}
 use Rattle.writing.specs.declared.Written.the-variants.{Refused, Bytes}
 
@@ -44,7 +44,7 @@ WriteAnswer z p t (some r) = RefusedBy (writeRows z p t) r
 
 -- the file of a preamble p and of the events whose threads, kinds and objects the lists have
 abbrev pub fileFrom : List ℕ → List ℕ → List ℕ → List ℕ → List ℕ
-fileFrom p threads kinds objects = written eventBytes p (traceFrom threads kinds objects)
+fileFrom p threads kinds objects = fileWith p (traceFrom threads kinds objects)
 
 -- the file in the front of the buffer, and the rest as it was
 abbrev pub wrote : List ℕ → List ℕ → Written × List ℕ
@@ -53,7 +53,7 @@ wrote file buffer = (Bytes (length file), inFront file buffer)
 -- the rows: lists of different lengths have no file, which is refusal 10; then those of reading the file; a buffer too short is refusal 10, judged last
 abbrev pub writerRows : List ℕ → List ℕ → List ℕ → List ℕ → List ℕ → List Row
 writerRows p threads kinds objects buffer =
-    row 10 nothing (¬ Even threads kinds objects) ∷ (fileRows eventBytes (fileFrom p threads kinds objects) ++ row 10 nothing (length buffer < length (fileFrom p threads kinds objects)) ∷ [])
+    row 10 nothing (¬ Even threads kinds objects) ∷ (rowsOfFile (fileFrom p threads kinds objects) ++ row 10 nothing (length buffer < length (fileFrom p threads kinds objects)) ∷ [])
 
 -- what each answer means; a refusal changes nothing
 abbrev pub Writes : List ℕ → List ℕ → List ℕ → List ℕ → List ℕ → Written × List ℕ → Type 0
@@ -66,7 +66,7 @@ isEven threads kinds objects = eqb (length kinds) (length threads) && eqb (lengt
 
 -- a file handed to a buffer
 abbrev pub handRefusal : List ℕ → List ℕ → Option Refusal
-handRefusal file buffer = either (fileRefusal eventBytes file) (first (ltb (length buffer) (length file) ∷ []) (ListShort ∷ []))
+handRefusal file buffer = either (refusalOf file) (first (ltb (length buffer) (length file) ∷ []) (ListShort ∷ []))
 
 unfoldable pub handed : List ℕ → List ℕ → Written × List ℕ
 handed file buffer = settled (λ r. (Refused r, buffer)) (wrote file buffer) (handRefusal file buffer)

@@ -29,6 +29,10 @@ writtenTrailer z n = bytes32 (trailerBytes + z * n) ++ (bytes16 n ++ (markFirst 
 unfoldable pub written : ℕ → List ℕ → Trace → List ℕ
 written z p t = p ++ (writtenEvents z t ++ writtenTrailer z (length t))
 
+-- the same at the size that events have
+abbrev pub fileWith : List ℕ → Trace → List ℕ
+fileWith p t = written eventBytes p t
+
 -- how many bytes that is
 unfoldable pub writtenBytes : ℕ → ℕ → ℕ → ℕ
 writtenBytes z p n = p + (z * n + trailerBytes)

@@ -7,7 +7,7 @@ use limits::Recording;
 use limits::Refusal;
 ghost use mathlib.Core.Path.{_≡_};
 ghost use Rattle.limits.specs.Limits.{eventBytes, isFileSize, trailerBytes};
-ghost use Rattle.writing.specs.Written.{writtenBytes, Fitting, bytes16, bytes32, writtenEvent, writtenEvents, writtenTrailer, written, traceFrom, Even};
+ghost use Rattle.writing.specs.Written.{writtenBytes, Fitting, bytes16, bytes32, writtenEvent, writtenEvents, writtenTrailer, traceFrom, Even, fileWith};
 ghost use Rattle.writing.specs.Writing.{fileFrom, isEven, handed, answerWrite};
 ghost use Prim.Native.Nat.{_+_, _*_, _≤_, _<_};
 ghost use lib.ListN.{length};
@@ -74,7 +74,7 @@ pub fn put_file(
     objects: &[u16],
 ) -> usize
     requires { ⌜ Fitting (now preamble) (now threads) (now kinds) (now objects) ⌝ }
-    ensures { λ r. ⌜ Appends (written eventBytes (now (preamble .entry)) (traceFrom (now (threads .entry)) (now (kinds .entry)) (now (objects .entry)))) 0 (now (out .entry)) (now (out .exit)) r ⌝ }
+    ensures { λ r. ⌜ Appends (fileWith (now (preamble .entry)) (traceFrom (now (threads .entry)) (now (kinds .entry)) (now (objects .entry)))) 0 (now (out .entry)) (now (out .exit)) r ⌝ }
 {
     let events = put_word(out, 0, preamble);
     let trailer = put_events(out, events, threads, kinds, objects);

@@ -1,3 +1,0 @@
--- How the table is filled, and what each pass knows on its way.
-pub mod Filling
-pub mod Knows

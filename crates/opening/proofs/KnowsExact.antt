@@ -1,0 +1,39 @@
+-- What the pass that finds observed writes knows: after each event every cell's last write so far, or that there is none.
+use Prim.Native.Nat.{ℕ, _+_, _≤_}
+use mathlib.Core.Path.{_≡_, refl, sym, _∙_}
+use mathlib.Core.Logic.{_≢_, _↔_}
+use mathlib.Core.List.{List}
+use lib.ListN.{getD, replicate}
+use lib.Dec.{eqb}
+use borrow.Author.Tests.{eqb-true, eqb-false}
+use Rattle.model.specs.Trace.{Trace, Valid, write, kindOf, objectOf, does}
+use Rattle.model.specs.Lists.{nearest}
+use Rattle.model.specs.Observed.{LastBefore, Unwritten}
+use Rattle.model.specs.Good.{Good, maxObject}
+use Rattle.model.proofs.Tests.{by-cases, true-does, false-does}
+use Rattle.model.proofs.ObservedExact.{last-write-exactly, unwritten-exactly}
+use Rattle.table.proofs.EntryLaws.{entries-new, entries-same, entries-put}
+use Rattle.opening.specs.Knows.{LastWrites, withWrite}
+use Rattle.opening.proofs.KnowsLaws.{known-next, none}
+
+-- it knows it before the first event
+pub knows-first : (t : Trace) → LastWrites t 1 (replicate (maxObject + 1) 0)
+knows-first t = entries-new _ maxObject (λ x. refl)
+
+-- a step keeps it: what is known before event k is known before the next
+pub knows-kept : {t : Trace} {k : ℕ} → Good t → Valid t k → {list : List ℕ} → LastWrites t k list → LastWrites t (k + 1) (withWrite t k list)
+unfolding withWrite
+knows-kept {t} {k} g v p =
+    let x = objectOf t k in
+    known-next g v (λ y h. nearest (does t write y) h)
+    (by-cases (eqb (kindOf t k) write)
+    (λ e. rw e (entries-put p _ x k (g .object-limit k v) (rw (true-does t write x k (eqb-true _ _ e) refl)) (λ y ne. rw (none g v write y ne))))
+    (λ e. rw e (entries-same p _ (λ y. rw (false-does t write y k (eqb-false _ _ e))))))
+
+-- in words: a write is the cell's last before event k, and 0 is for a cell that is not written before it
+module _ {t : Trace} {k : ℕ} {list : List ℕ} (p : LastWrites t k list) (x : ℕ) (l : x ≤ maxObject) where
+  pub knows-write : (w : ℕ) → w ≢ 0 → (getD list x 0 ≡ w) ↔ LastBefore t x k w
+  knows-write w ne = (λ e. last-write-exactly t x k w ne .0 (sym (p .is x l) ∙ e), λ d. p .is x l ∙ last-write-exactly t x k w ne .1 d)
+
+  pub knows-none : (getD list x 0 ≡ 0) ↔ Unwritten t x 0 k
+  knows-none = (λ e. unwritten-exactly t x k .0 (sym (p .is x l) ∙ e), λ u. p .is x l ∙ unwritten-exactly t x k .1 u)

@@ -1,0 +1,179 @@
+-- The ways through the steps.
+use Prim.Native.Nat.{ℕ, suc, _+_, _-_, _≤_}
+use native.Mathlib.Omega.{arith}
+use mathlib.Core.Path.{_≡_, refl, sym, _∙_, ap}
+use mathlib.Core.Logic.{_≢_, _⊎_, inl, inr}
+use mathlib.Core.Bool.{Bool, true, false}
+use mathlib.Core.List.{List}
+use mir.Syntax.{w16}
+use mir.Val.{Fits}
+use lib.ListN.{getD, set}
+use lib.Dec.{eqb, leb}
+use borrow.Author.Tests.{eqb-true, eqb-false, eq-eqb, ne-eqb}
+use Rattle.model.specs.Trace.{Trace, Valid, read, write, acquire, release, threadOf, kindOf, objectOf}
+use Rattle.model.specs.Lists.{before}
+use Rattle.model.specs.Observed.{observed}
+use Rattle.model.specs.Good.{depth}
+use Rattle.model.specs.Sections.{ownDepth, isOutermost, isLast}
+use Rattle.model.proofs.Tests.{by-cases, true-does, false-does}
+use Rattle.model.proofs.Locks.{nobody, depth-before, locked-before}
+use Rattle.model.proofs.SectionsExact.{own-depth-lock}
+use Rattle.model.proofs.MatchingExact.{matching-inner}
+use Rattle.table.specs.Links.{previous, observedBy, lockDepth, releaseOf}
+use Rattle.table.specs.Table.{word, trace, withWord}
+use Rattle.opening.specs.Filling.{Columns, Turn, Stepped}
+use Rattle.opening.specs.Knows.{LastEvents, LastWrites, withWrite, Depths, NextEnds}
+use Rattle.opening.proofs.KnowsLaws.{events-step, depths-put, depths-same, ends-put, ends-same, matching-next}
+use Rattle.opening.proofs.KnowsExact.{knows-kept}
+
+-- ---- `put_previous`
+
+pub previous-step : {k : ℕ} {s last : List ℕ} → Turn LastEvents 2 k s last → (c : ℕ) → c ≡ threadOf (trace s) k → {s′ : List ℕ} → s′ ≡ withWord s k 2 (getD last c 0)
+    → Stepped LastEvents 2 k (k + 1) s s′ (set last c k)
+unfolding previous
+previous-step {k} {s} w c ec e =
+    let g = w .columns .good in
+    let v = w .valid in
+    record { set = e ∙ rw (ec, w .knows .is (threadOf (trace s) k) (g .thread-limit k v)); knows = rw ec (events-step g v (w .knows)) }
+
+-- ---- `put_observed`
+
+module _ {k : ℕ} {s last : List ℕ} (w : Turn LastWrites 3 k s last) (q : ℕ) (eq : q ≡ kindOf (trace s) k) where
+  abbrev t : Trace
+  t = trace s
+
+  knows : LastWrites t (k + 1) (withWrite t k last)
+  knows = knows-kept (w .columns .good) (w .valid) (w .knows)
+
+  -- an event that is no write leaves the list as it is
+  no-write : kindOf t k ≢ write → LastWrites t (k + 1) last
+  unfolding withWrite
+  no-write ne = rw (ne-eqb (kindOf t k) write ne) at knows
+
+  module _ (x : ℕ) (ex : x ≡ objectOf t k) {s′ : List ℕ} where
+    pub observed-read : q ≡ read → s′ ≡ withWord s k 3 (getD last x 0) → Stepped LastWrites 3 k (k + 1) s s′ last
+    unfolding observedBy observed
+    observed-read r e =
+        let d : kindOf t k ≡ read = sym eq ∙ r in
+        record { set = e ∙ rw (eq-eqb _ _ d, ex, w .knows .is (objectOf t k) (w .columns .good .object-limit k (w .valid))); knows = no-write (omega arith) }
+
+    module _ (nr : q ≡ read → ⊥) (e : s′ ≡ withWord s k 3 0) where
+      no-link : s′ ≡ withWord s k 3 (observedBy t k)
+      unfolding observedBy
+      no-link = e ∙ rw (ne-eqb (kindOf t k) read (λ z. nr (eq ∙ z)))
+
+      pub observed-write : q ≡ write → Stepped LastWrites 3 k (k + 1) s s′ (set last x k)
+      unfolding withWrite
+      observed-write d = record { set = no-link; knows = rw ex (rw (eq-eqb (kindOf t k) write (sym eq ∙ d)) at knows) }
+
+      pub observed-other : (q ≡ write → ⊥) → Stepped LastWrites 3 k (k + 1) s s′ last
+      observed-other nw = record { set = no-link; knows = no-write (λ z. nw (eq ∙ z)) }
+
+-- ---- `put_depth`
+
+module _ {k : ℕ} {s list : List ℕ} (w : Turn Depths 4 k s list) (x : ℕ) (ex : x ≡ objectOf (trace s) k) (d : ℕ) (ed : d ≡ getD list x 0) where
+  abbrev t₄ : Trace
+  t₄ = trace s
+
+  -- what was read is the depth before the event
+  is-depth : d ≡ depth t₄ (objectOf t₄ k) (before k)
+  is-depth = ed ∙ ap (λ (y : ℕ). getD list y 0) ex ∙ w .knows .is (objectOf t₄ k) (w .columns .good .object-limit k (w .valid))
+
+  -- it is the thread's own
+  own-depth : (kindOf t₄ k ≡ acquire) ⊎ (kindOf t₄ k ≡ release) → d ≡ ownDepth t₄ k
+  own-depth o = is-depth ∙ sym (own-depth-lock t₄ (w .columns .good .well-formed) k (w .valid) o)
+
+  pub depth-fits : Fits w16 (d + 1)
+  depth-fits =
+      let a = is-depth in
+      let b = depth-before t₄ (objectOf t₄ k) k in
+      let c = w .valid .bounded in
+      let z = w .columns .good .size in omega arith
+
+  module _ (q : ℕ) (eq : q ≡ kindOf t₄ k) where
+    -- the thread that releases a lock holds it
+    pub depth-positive : q ≡ release → 1 ≤ d
+    depth-positive r =
+        let v = w .valid in
+        let g = w .columns .good .well-formed in
+        let h = g .given-back k v (sym eq ∙ r) in
+        let n = nobody t₄ (objectOf t₄ k) (before k) (locked-before t₄ g k (v .bounded)) .1 in
+        let a = is-depth in
+        by-cases (eqb d 0)
+        (λ e. let z = n (sym a ∙ eqb-true _ _ e) in absurd (omega arith))
+        (λ e. let z : d ≢ 0 = eqb-false _ _ e in omega arith)
+
+    module _ {s′ : List ℕ} where
+      pub depth-acquire : q ≡ acquire → s′ ≡ withWord s k 4 d → Stepped Depths 4 k (k + 1) s s′ (set list x (d + 1))
+      unfolding lockDepth
+      depth-acquire a e =
+          let f : kindOf t₄ k ≡ acquire = sym eq ∙ a in
+          let i = is-depth in
+          let z : d + 1 ≡ suc (depth t₄ (objectOf t₄ k) (before k)) = omega arith in
+          record {
+            set = e ∙ rw (eq-eqb _ _ f, own-depth (inl f));
+            knows = rw ex (depths-put (w .columns .good) (w .valid) (w .knows) (d + 1) (z ∙ rw (true-does t₄ acquire (objectOf t₄ k) k f refl)));
+          }
+
+      pub depth-release : q ≡ release → s′ ≡ withWord s k 4 d → Stepped Depths 4 k (k + 1) s s′ (set list x (d - 1))
+      unfolding lockDepth
+      depth-release r e =
+          let f : kindOf t₄ k ≡ release = sym eq ∙ r in
+          let i = is-depth in
+          let z : d - 1 ≡ depth t₄ (objectOf t₄ k) (before k) - 1 = omega arith in
+          let na = ne-eqb (kindOf t₄ k) acquire (omega arith) in
+          record {
+            set = e ∙ rw (na, eq-eqb _ _ f, own-depth (inr f));
+            knows = rw ex (depths-put (w .columns .good) (w .valid) (w .knows) (d - 1) (z ∙ rw (false-does t₄ acquire (objectOf t₄ k) k (omega arith), true-does t₄ release (objectOf t₄ k) k f refl)));
+          }
+
+pub depth-other : {k : ℕ} {s list : List ℕ} → Turn Depths 4 k s list → (q : ℕ) → q ≡ kindOf (trace s) k → (q ≡ acquire → ⊥) → (q ≡ release → ⊥) → {s′ : List ℕ} → s′ ≡ withWord s k 4 0
+    → Stepped Depths 4 k (k + 1) s s′ list
+unfolding lockDepth
+depth-other {k} {s} w q eq na nr e =
+    let a : kindOf (trace s) k ≢ acquire = λ z. na (eq ∙ z) in
+    let r : kindOf (trace s) k ≢ release = λ z. nr (eq ∙ z) in
+    record { set = e ∙ rw (ne-eqb _ _ a, ne-eqb _ _ r); knows = depths-same (w .columns .good) (w .valid) (w .knows) a r }
+
+-- ---- `begins` and `ends`
+
+module _ {k : ℕ} {s : List ℕ} (p : Columns (trace s) 5 s) (v : Valid (trace s) k) (q : ℕ) (eq : q ≡ kindOf (trace s) k) where
+  pub begins-not : (q ≡ acquire → ⊥) → false ≡ isOutermost (trace s) k
+  unfolding isOutermost
+  begins-not ne = rw (ne-eqb (kindOf (trace s) k) acquire (λ z. ne (eq ∙ z)))
+
+  pub ends-not : (q ≡ release → ⊥) → false ≡ isLast (trace s) k
+  unfolding isLast
+  ends-not ne = rw (ne-eqb (kindOf (trace s) k) release (λ z. ne (eq ∙ z)))
+
+  module _ (d : ℕ) (ed : d ≡ word s k 4) where
+    pub begins-test : q ≡ acquire → eqb d 0 ≡ isOutermost (trace s) k
+    unfolding isOutermost lockDepth
+    begins-test a = let e = ed ∙ p .is 4 k (omega arith) v in let f = eq-eqb (kindOf (trace s) k) acquire (sym eq ∙ a) in rw (e, f)
+
+    pub ends-test : q ≡ release → leb d 1 ≡ isLast (trace s) k
+    unfolding isLast lockDepth
+    ends-test r =
+        let e : kindOf (trace s) k ≡ release = sym eq ∙ r in rw (ed ∙ p .is 4 k (omega arith) v, ne-eqb (kindOf (trace s) k) acquire (omega arith), eq-eqb _ _ e)
+
+-- ---- `put_released`
+
+module _ {k : ℕ} {s list : List ℕ} (w : Turn NextEnds 5 k s list) (x : ℕ) (ex : x ≡ objectOf (trace s) k) (b : Bool) (eb : b ≡ isLast (trace s) k) where
+  pub released-last : {s′ : List ℕ} → b ≡ true → s′ ≡ withWord s k 5 k → Stepped NextEnds 5 k (k - 1) s s′ (set list x k)
+  unfolding releaseOf
+  released-last l e = let i = sym eb ∙ l in record { set = e ∙ rw i; knows = rw ex (ends-put (w .columns .good) (w .valid) (w .knows) i) }
+
+  module _ (nl : b ≡ false) (o : Bool) (eo : o ≡ isOutermost (trace s) k) where
+    knows-same : NextEnds (trace s) (k - 1) list
+    knows-same = ends-same (w .columns .good) (w .valid) (w .knows) (sym eb ∙ nl)
+
+    pub released-outermost : {s′ : List ℕ} → o ≡ true → s′ ≡ withWord s k 5 (getD list x 0) → Stepped NextEnds 5 k (k - 1) s s′ list
+    unfolding releaseOf
+    released-outermost y e =
+        let g = w .columns .good in
+        let m = matching-next (trace s) (g .well-formed) k (w .valid) (sym eo ∙ y) in
+        record { set = e ∙ rw (sym eb ∙ nl, ex, w .knows .is (objectOf (trace s) k) (g .object-limit k (w .valid)), m); knows = knows-same }
+
+    pub released-other : {s′ : List ℕ} → o ≡ false → s′ ≡ withWord s k 5 0 → Stepped NextEnds 5 k (k - 1) s s′ list
+    unfolding releaseOf
+    released-other n e = record { set = e ∙ rw (sym eb ∙ nl, matching-inner (trace s) k (sym eo ∙ n)); knows = knows-same }

@@ -1,0 +1,23 @@
+use native.Mathlib.Omega.{arith}
+use borrow.Author.Needs.{needs}
+use Rattle.opening.proofs.FillLaws.{columns-own, fill-end}
+use Rattle.opening.proofs.fill.Statement.{statement}
+use Rattle.opening.proofs.fill.Tie as tie
+
+pub fill-spec : {M : Type 1} → statement M
+fill-spec =
+    tie.close
+    (tie.spec
+    (λ c κs. search needs)
+    (λ c κs. search needs)
+    (λ c κs. columns-own (c .before .before .before .add-own2 .ensures) (omega arith))
+    (λ c κs. columns-own (c .before .before .before .add-previous .ensures) (omega arith))
+    (λ c κs. columns-own (c .before .before .before .add-observed .ensures) (omega arith))
+    (λ c κs. columns-own (c .before .before .before .add-depths .ensures) (omega arith))
+    (λ c. search needs)
+    (λ c.
+    let r = c .before .before in
+    let d = r .before .before .before .before in
+    let o = d .before .before .before .before in
+    let p = o .before .before .before .before in
+    fill-end (r .add-released .ensures) (d .add-depths .ensures) (o .add-observed .ensures) (p .add-previous .ensures) (p .before .before .before .before .add-own2 .ensures)))
