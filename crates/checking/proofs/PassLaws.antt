@@ -13,7 +13,7 @@ use Rattle.model.specs.Observed.{lastWrite}
 use Rattle.model.specs.Good.{Good, maxThread, maxObject, holder, Free}
 use Rattle.model.specs.Reordering.{Step, Next}
 use Rattle.model.specs.Sections.{isLast}
-use Rattle.model.proofs.Tests.{by-cases, true-is, false-is, true-does, false-does, does-true, false-test, test-false}
+use Rattle.model.proofs.Tests.{by-cases, true-just, false-just, true-does, false-does, does-true, false-test, test-false}
 use Rattle.model.proofs.Histories.{Legal, of-legal, to-legal, beginning}
 use Rattle.decision.proofs.CheckExact.{clean-step, next-true, true-next, valid-true, true-valid, seen-true, true-seen, free-true, true-free}
 use Rattle.model.proofs.SectionsExact.{last-releases, release-by-holder, release-frees}
@@ -22,7 +22,7 @@ use Rattle.table.specs.Entries.{Entries}
 use Rattle.table.proofs.LinkFacts.{last-release, reads-observed}
 use Rattle.table.proofs.EntryLaws.{entries-same, entries-put}
 use Rattle.checking.specs.Passing.{KnowsMore, Knows, NextTold, AccessTold, FaultTold}
-use Rattle.model.specs.Lists.{upTo, before, keep, nearest, is}
+use Rattle.model.specs.Lists.{upTo, before, keep, nearest, just}
 use Rattle.decision.specs.Check.{isNext, isSeen, isFree, placeTests, placeFault}
 use Rattle.model.specs.Rows.{first, orZero}
 
@@ -51,13 +51,13 @@ knows-legal {t} {h} w = rw (reverse-reverse h) at (to-legal t (reverse h) (w .co
 module _ (t : Trace) (h : List ℕ) where
   next-last : (k : ℕ) → Next t h k → previous t k ≡ lastOf t h (threadOf t k)
   unfolding previous
-  next-last k e = sym (same-nearest (λ j. is (threadOf t k) (threadOf t j)) h (before k) (e .turn))
+  next-last k e = sym (same-nearest (λ j. just (threadOf t k) (threadOf t j)) h (before k) (e .turn))
 
   last-next : Legal t h → (k : ℕ) → Valid t k → previous t k ≡ lastOf t h (threadOf t k) → Next t h k
   unfolding previous
   last-next l zero v e = absurd (let z = v .positive in omega arith)
   last-next l (suc k) v e =
-      let p : ℕ → Bool = λ j. is (threadOf t (suc k)) (threadOf t j) in
+      let p : ℕ → Bool = λ j. just (threadOf t (suc k)) (threadOf t j) in
       let b = beginning t h l (threadOf t (suc k)) in
       let s : nearest p h ≡ nearest p (upTo (b .0)) = same-nearest p h (upTo (b .0)) (b .2) in
       record { valid = v; turn = b .2 ∙ nearest-same p (b .0) k (sym s ∙ sym e) }
@@ -93,8 +93,8 @@ module _ (t : Trace) (k : ℕ) (last writes locks : List ℕ) (c : ℕ) (ec : c 
   -- event k in the table of the threads
   threads-more : (h : List ℕ) → Entries (lastOf t h) maxThread last → Entries (lastOf t (k ∷ h)) maxThread (set last c k)
   threads-more h p =
-      entries-put p (lastOf t (k ∷ h)) c k lc (rw (true-is c (threadOf t k) (sym ec)))
-      (λ y ne. rw (false-is y (threadOf t k) (λ e. ne (sym e ∙ sym ec))))
+      entries-put p (lastOf t (k ∷ h)) c k lc (rw (true-just c (threadOf t k) (sym ec)))
+      (λ y ne. rw (false-just y (threadOf t k) (λ e. ne (sym e ∙ sym ec))))
 
   passes : (writes′ locks′ : List ℕ) → ((h : List ℕ) → Cells h writes → Cells (k ∷ h) writes′)
       → ((h : List ℕ) → Legal t h → Step t h k → Holders h locks → Holders (k ∷ h) locks′)

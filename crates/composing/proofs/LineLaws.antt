@@ -16,7 +16,7 @@ use Rattle.appending.specs.Decimal.{decimal, valueFrom, InDecimal}
 use Rattle.appending.proofs.DecimalLaws.{decimal-value, decimal-in}
 use Rattle.format.specs.Readable.{isReadable}
 use Rattle.format.proofs.ReadableExact.{readable-true, true-readable}
-use Rattle.composing.specs.Lines.{noteWord, readWord, writeWord, acquireWord, releaseWord, word, noteLine, IsNote, eventLine, IsEvent, Reads, note, event, bad}
+use Rattle.composing.specs.Lines.{noteWord, readWord, writeWord, acquireWord, releaseWord, kindWord, noteLine, IsNote, eventLine, IsEvent, Reads, note, event, bad}
 use Rattle.composing.specs.Parts.{SaysNote, is-note, no-note, firstAt, ReadsNumber, ReadsKind, kind, no-kind, IsAction, ReadsAction, action, no-action, ReadsEvent, is-event, no-event}
 use Rattle.composing.specs.declared.Line.{Line}
 use Rattle.composing.specs.declared.Line.the-variants.{Bad, Note, Event as EventOf}
@@ -31,12 +31,12 @@ use Rattle.composing.proofs.NumberLaws.{read-value, read-absent, decima
 abbrev pub Same : Bool → List ℕ → List ℕ → Type 0
 Same b s t = (b ≡ true → s ≡ t) × (s ≡ t → b ≡ true)
 
-pub kind-is : (k : ℕ) (w : List ℕ) (a : Bool) → read ≤ k → k ≤ release → (a ≡ true → w ≡ word k) → a ≡ true → ReadsKind w k
+pub kind-is : (k : ℕ) (w : List ℕ) (a : Bool) → read ≤ k → k ≤ release → (a ≡ true → w ≡ kindWord k) → a ≡ true → ReadsKind w k
 kind-is k w a least most f h = kind least most (f h)
 
 module _ (w : List ℕ) (a b c d : Bool) where
   pub kind-other : Same a w readWord → a ≡ false → Same b w writeWord → b ≡ false → Same c w acquireWord → c ≡ false → Same d w releaseWord → d ≡ false → ReadsKind w 0
-  unfolding word
+  unfolding kindWord
   kind-other f fa g gb h hc i id =
       no-kind (λ k least most e.
       by-cases (eqb k read) (λ p. clash (f .1 (rw p at e)) fa)
@@ -45,17 +45,17 @@ module _ (w : List ℕ) (a b c d : Bool) where
       (λ q.
       by-cases (eqb k acquire) (λ r. clash (h .1 (rw (p, q, r) at e)) hc) (λ r. clash (i .1 (rw (p, q, r) at e)) id))))
 
-read-kind : {s : List ℕ} {k : ℕ} → ReadsKind s k → (k ≡ 0 → ⊥) → (read ≤ k) × (k ≤ release) × (s ≡ word k)
+read-kind : {s : List ℕ} {k : ℕ} → ReadsKind s k → (k ≡ 0 → ⊥) → (read ≤ k) × (k ≤ release) × (s ≡ kindWord k)
 read-kind (kind l m e) ne = (l, m, e)
 read-kind (no-kind f) ne = absurd (ne refl)
 
-read-no-kind : {s : List ℕ} {k : ℕ} → ReadsKind s k → k ≡ 0 → (j : ℕ) → read ≤ j → j ≤ release → s ≢ word j
+read-no-kind : {s : List ℕ} {k : ℕ} → ReadsKind s k → k ≡ 0 → (j : ℕ) → read ≤ j → j ≤ release → s ≢ kindWord j
 read-no-kind (kind l m e) z = absurd (omega arith)
 read-no-kind (no-kind f) z = f
 
 -- no word has a space
-pub word-whole : (k : ℕ) → firstAt 32 (word k) ≡ length (word k)
-unfolding word
+pub word-whole : (k : ℕ) → firstAt 32 (kindWord k) ≡ length (kindWord k)
+unfolding kindWord
 word-whole k =
     by-cases (eqb k read) (λ p. rw p)
     (λ p. by-cases (eqb k write) (λ q. rw (p, q)) (λ q. by-cases (eqb k acquire) (λ r. rw (p, q, r)) (λ r. rw (p, q, r))))
@@ -100,15 +100,15 @@ same-number m n e = sym (decimal-value m) ∙ ap (valueFrom 0) e ∙ decimal-val
 
 module _ (t : ℕ) (s : List ℕ) (i : ℕ) (at-space : i ≡ firstAt 32 s) where
   pub action-short : i ≡ length s → ReadsAction t s Bad
-  action-short e = no-action (λ k o a. let w = space-within s i at-space (word k) (decimal o) (word-whole k) (a .these) in omega arith)
+  action-short e = no-action (λ k o a. let w = space-within s i at-space (kindWord k) (decimal o) (word-whole k) (a .these) in omega arith)
 
   module _ (k : ℕ) (x : ReadsKind (take i s) k) where
     pub action-kind : k ≡ 0 → ReadsAction t s Bad
-    action-kind z = no-action (λ j o a. read-no-kind x z j (a .least) (a .most) (before-space s i at-space (word j) (decimal o) (word-whole j) (a .these)))
+    action-kind z = no-action (λ j o a. read-no-kind x z j (a .least) (a .most) (before-space s i at-space (kindWord j) (decimal o) (word-whole j) (a .these)))
 
     module _ (known : k ≡ 0 → ⊥) (n : Number) (y : ReadsNumber (from (i + 1) s) n) where
       pub action-number : n ≡ Absent → ReadsAction t s Bad
-      action-number z = no-action (λ j o a. read-absent y z o (a .object-fits) (from-drop (i + 1) s ∙ after-space s i at-space (word j) (decimal o) (word-whole j) (a .these)))
+      action-number z = no-action (λ j o a. read-absent y z o (a .object-fits) (from-drop (i + 1) s ∙ after-space s i at-space (kindWord j) (decimal o) (word-whole j) (a .these)))
 
       pub action-good : (i ≡ length s → ⊥) → i ≤ length s → (o : ℕ) → n ≡ Value o → ReadsAction t s (EventOf t k o)
       action-good ne h o e =
@@ -131,13 +131,13 @@ module _ (line : List ℕ) (i : ℕ) (at-space : i ≡ firstAt 32 line) where
   unfolding eventLine
   event-short h =
       no-event (λ e g.
-      let w = space-within line i at-space (decimal (e .thread)) (word (e .kind) ++ (32 ∷ decimal (e .object))) (decimal-whole (e .thread)) (g .these) in
+      let w = space-within line i at-space (decimal (e .thread)) (kindWord (e .kind) ++ (32 ∷ decimal (e .object))) (decimal-whole (e .thread)) (g .these) in
       omega arith)
 
   module _ (e : Event) (g : IsEvent line e) where
     event-thread : take i line ≡ decimal (e .thread)
     unfolding eventLine
-    event-thread = before-space line i at-space (decimal (e .thread)) (word (e .kind) ++ (32 ∷ decimal (e .object))) (decimal-whole (e .thread)) (g .these)
+    event-thread = before-space line i at-space (decimal (e .thread)) (kindWord (e .kind) ++ (32 ∷ decimal (e .object))) (decimal-whole (e .thread)) (g .these)
 
     event-action : IsAction (drop (i + 1) line) (e .kind) (e .object)
     unfolding eventLine
@@ -146,7 +146,7 @@ module _ (line : List ℕ) (i : ℕ) (at-space : i ≡ firstAt 32 line) where
           least = g .in-range .least;
           most = g .in-range .most;
           object-fits = g .in-range .object;
-          these = after-space line i at-space (decimal (e .thread)) (word (e .kind) ++ (32 ∷ decimal (e .object))) (decimal-whole (e .thread)) (g .these);
+          these = after-space line i at-space (decimal (e .thread)) (kindWord (e .kind) ++ (32 ∷ decimal (e .object))) (decimal-whole (e .thread)) (g .these);
         }
 
   module _ (n : Number) (y : ReadsNumber (take i line) n) where
@@ -216,7 +216,7 @@ begins (x ∷ d) rest text i e = let h = i .digits-only x (List·Memᴰ·head re
 
 pub event-apart : (e : Event) (text : List ℕ) → eventLine e ≡ noteLine text → ⊥
 unfolding eventLine
-event-apart e text q = begins (decimal (e .thread)) (32 ∷ (word (e .kind) ++ (32 ∷ decimal (e .object)))) text (decimal-in (e .thread)) q
+event-apart e text q = begins (decimal (e .thread)) (32 ∷ (kindWord (e .kind) ++ (32 ∷ decimal (e .object)))) text (decimal-in (e .thread)) q
 
 module _ {line : List ℕ} where
   pub event-no-note : (e : Event) → IsEvent line e → ¬ IsNote line

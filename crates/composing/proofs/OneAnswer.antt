@@ -12,7 +12,7 @@ use Rattle.model.specs.Trace.{Event, Trace, read, write, acquire, release}
 use Rattle.model.proofs.Tests.{by-cases}
 use Rattle.appending.specs.Decimal.{decimal}
 use Rattle.appending.specs.Appended.{Appends}
-use Rattle.composing.specs.Lines.{word, noteLine, eventLine, InRange, Reads, note, event, bad}
+use Rattle.composing.specs.Lines.{kindWord, noteLine, eventLine, InRange, Reads, note, event, bad}
 use Rattle.composing.specs.Texts.{lines, Makes, Listed, FirstBad, ReadsText, good, bad-line, Settled}
 use Rattle.composing.specs.declared.Line.{Line}
 use Rattle.composing.specs.declared.Line.the-variants.{Event as EventOf}
@@ -27,8 +27,8 @@ use Rattle.composing.proofs.LineLaws.{word-whole, space-one, same-numbe
 abbrev kindBy : List ℕ → ℕ
 kindBy w = cond (eqb (getD w 2 0) 97) read (cond (eqb (getD w 2 0) 105) write (cond (eqb (getD w 2 0) 113) acquire release))
 
-word-kind : (k : ℕ) → read ≤ k → k ≤ release → kindBy (word k) ≡ k
-unfolding word
+word-kind : (k : ℕ) → read ≤ k → k ≤ release → kindBy (kindWord k) ≡ k
+unfolding kindWord
 word-kind k l m =
     by-cases (eqb k read) (λ p. rw p (sym (eqb-true k read p)))
     (λ p.
@@ -46,8 +46,8 @@ word-kind k l m =
 event-one : (e f : Event) → InRange e → InRange f → eventLine e ≡ eventLine f → e ≡ f
 unfolding eventLine
 event-one e f r s q =
-    let a = space-one (decimal (e .thread)) (word (e .kind) ++ (32 ∷ decimal (e .object))) (decimal (f .thread)) (word (f .kind) ++ (32 ∷ decimal (f .object))) (decimal-whole (e .thread)) (decimal-whole (f .thread)) q in
-    let b = space-one (word (e .kind)) (decimal (e .object)) (word (f .kind)) (decimal (f .object)) (word-whole (e .kind)) (word-whole (f .kind)) (a .1) in
+    let a = space-one (decimal (e .thread)) (kindWord (e .kind) ++ (32 ∷ decimal (e .object))) (decimal (f .thread)) (kindWord (f .kind) ++ (32 ∷ decimal (f .object))) (decimal-whole (e .thread)) (decimal-whole (f .thread)) q in
+    let b = space-one (kindWord (e .kind)) (decimal (e .object)) (kindWord (f .kind)) (decimal (f .object)) (word-whole (e .kind)) (word-whole (f .kind)) (a .1) in
     let t = same-number (e .thread) (f .thread) (a .0) in
     let o = same-number (e .object) (f .object) (b .1) in
     let k : e .kind ≡ f .kind = sym (word-kind (e .kind) (r .least) (r .most)) ∙ ap kindBy (b .0) ∙ word-kind (f .kind) (s .least) (s .most) in

@@ -33,8 +33,8 @@ abbrev pub releaseWord : List ℕ
 releaseWord = 114 ∷ 101 ∷ 108 ∷ 101 ∷ 97 ∷ 115 ∷ 101 ∷ []
 
 -- the word of a kind
-unfoldable pub word : ℕ → List ℕ
-word k = cond (eqb k read) readWord (cond (eqb k write) writeWord (cond (eqb k acquire) acquireWord releaseWord))
+unfoldable pub kindWord : ℕ → List ℕ
+kindWord k = cond (eqb k read) readWord (cond (eqb k write) writeWord (cond (eqb k acquire) acquireWord releaseWord))
 
 -- ---- note lines
 
@@ -52,7 +52,7 @@ pub record IsNote (line : List ℕ) : Type 0 where
 
 -- thread, kind and object, with a space between
 unfoldable pub eventLine : Event → List ℕ
-eventLine e = decimal (e .thread) ++ (32 ∷ (word (e .kind) ++ (32 ∷ decimal (e .object))))
+eventLine e = decimal (e .thread) ++ (32 ∷ (kindWord (e .kind) ++ (32 ∷ decimal (e .object))))
 
 -- an event of a known kind whose numbers are of the size that a recording has for them
 pub record InRange (e : Event) : Type 0 where

@@ -10,7 +10,7 @@ use Rattle.model.specs.Trace.{Event, Trace, read, release}
 use Rattle.format.specs.Readable.{lineFeed, Readable}
 use Rattle.appending.specs.Decimal.{decimal}
 use Rattle.appending.specs.Appended.{Appends}
-use Rattle.composing.specs.Lines.{word, noteLine, IsNote, eventLine, InRange, IsEvent}
+use Rattle.composing.specs.Lines.{kindWord, noteLine, IsNote, eventLine, InRange, IsEvent}
 use Rattle.composing.specs.Texts.{lines, joined, Listed}
 use Rattle.composing.specs.declared.Line.{Line}
 use Rattle.composing.specs.declared.Line.the-variants.{Bad, Event as EventOf}
@@ -47,15 +47,15 @@ pub data ReadsNumber (s : List ℕ) : Number → Type 0 where
 
 -- the word of this kind, or 0 for no kind's
 pub data ReadsKind (s : List ℕ) : ℕ → Type 0 where
-  kind : {k : ℕ} → read ≤ k → k ≤ release → s ≡ word k → ReadsKind s k
-  no-kind : ((k : ℕ) → read ≤ k → k ≤ release → s ≢ word k) → ReadsKind s 0
+  kind : {k : ℕ} → read ≤ k → k ≤ release → s ≡ kindWord k → ReadsKind s k
+  no-kind : ((k : ℕ) → read ≤ k → k ≤ release → s ≢ kindWord k) → ReadsKind s 0
 
 -- an event line from its kind on
 pub record IsAction (s : List ℕ) (k o : ℕ) : Type 0 where
   pub least : read ≤ k
   pub most : k ≤ release
   pub object-fits : o < 65536
-  pub these : s ≡ word k ++ (32 ∷ decimal o)
+  pub these : s ≡ kindWord k ++ (32 ∷ decimal o)
 
 -- what is there, after the thread t
 pub data ReadsAction (t : ℕ) (s : List ℕ) : Line → Type 0 where

@@ -11,9 +11,9 @@ use mir.Syntax.{w16}
 use mir.Val.{Fits}
 use borrow.Author.Tests.{eq-eqb, ne-eqb, not-true, not-false}
 use Rattle.model.specs.Trace.{Trace, Valid, threadOf}
-use Rattle.model.specs.Lists.{upTo, before, keep, only, is, but}
+use Rattle.model.specs.Lists.{upTo, before, keep, only, allBut}
 use Rattle.decision.specs.Grid.{side}
-use Rattle.model.proofs.Tests.{by-cases, both, true-is, false-is}
+use Rattle.model.proofs.Tests.{by-cases, both, true-just, false-just}
 use Rattle.cone.specs.Sides.{flagged, Pickable, Picked, isChosen, Picking}
 
 -- ---- is an event chosen
@@ -25,15 +25,15 @@ module _ (t : Trace) (m : ℕ) (w : Bool) (flags : List ℕ) (k : ℕ) where
 
   module _ (f : getD flags k 0 ≡ 1) (c : ℕ) (ec : c ≡ threadOf t k) where
     pub chosen-own : c ≡ m → w ≡ isChosen t m w flags k
-    unfolding isChosen flagged but
+    unfolding isChosen flagged allBut
     chosen-own e =
-        let q = true-is m (threadOf t k) (sym ec ∙ e) in
+        let q = true-just m (threadOf t k) (sym ec ∙ e) in
         by-cases w (λ d. rw (d, eq-eqb _ _ f, q)) (λ d. rw (d, eq-eqb _ _ f, q))
 
     pub chosen-other : (c ≡ m → ⊥) → not w ≡ isChosen t m w flags k
-    unfolding isChosen flagged but
+    unfolding isChosen flagged allBut
     chosen-other ne =
-        let q = false-is m (threadOf t k) (λ z. ne (ec ∙ z)) in
+        let q = false-just m (threadOf t k) (λ z. ne (ec ∙ z)) in
         by-cases w (λ d. rw (d, eq-eqb _ _ f, q)) (λ d. rw (d, eq-eqb _ _ f, q))
 
 -- ---- the chosen events

@@ -7,7 +7,7 @@ use mathlib.Core.List.{List, reverse}
 use lib.ListN.{length, getD}
 use borrow.Author.Tests.{eqb-true, eq-eqb}
 use Rattle.model.specs.Trace.{Trace, Valid, threadOf}
-use Rattle.model.specs.Lists.{_∈_, upTo, keep, anyIn, listed, only, is}
+use Rattle.model.specs.Lists.{_∈_, upTo, keep, anyIn, listed, only}
 use Rattle.decision.specs.Rounds.{cone}
 use Rattle.decision.specs.Grid.{side}
 use Rattle.model.proofs.Tests.{false-test}

@@ -7,7 +7,7 @@ use mathlib.Core.Option.{Option, none, some}
 use mathlib.Core.List.{List, [], _∷_, map, head-eq-of-cons-eq, tail-eq-of-cons-eq, List·Memᴰ, List·Memᴰ·head, List·Memᴰ·tail}
 use lib.ListN.{length}
 use Rattle.model.specs.Trace.{does}
-use Rattle.model.specs.Lists.{listed, is, but, threads}
+use Rattle.model.specs.Lists.{listed, just, allBut, threads}
 use Rattle.model.specs.Observed.{observed}
 use Rattle.model.specs.Sections.{ownDepth, isOutermost, isLast}
 use Rattle.model.specs.Cone.{givesBack, matching}
@@ -33,7 +33,7 @@ computed e =
 
 -- the one test
 pub examples-hold : map computed examples ≡ map some examples
-unfolding does listed is but threads observed ownDepth isOutermost isLast givesBack matching sameList isValid isNext isSeen isFree placeTests placeFault faultFrom isEnabled check
+unfolding does listed just allBut threads observed ownDepth isOutermost isLast givesBack matching sameList isValid isNext isSeen isFree placeTests placeFault faultFrom isEnabled check
     eventTests isGood
     isBrought rounds isEarlier isRooted isObserved isExempt isClosing brings cone sawOther sawNone readStep writeStep lockStep mayStep stepAt path
     shownFor isAccess isConflicting conflictingPairs races

@@ -8,13 +8,13 @@ use mathlib.Core.List.{List, [], _∷_, List·Memᴰ·head, List·Memᴰ·tail, 
 use lib.Dec.{eqb}
 use borrow.Author.Tests.{eqb-true, eqb-false, eq-eqb, ne-eqb, not-true}
 use Rattle.model.specs.Trace.{Trace, read, write, acquire, release, threadOf, kindOf, objectOf, does}
-use Rattle.model.specs.Lists.{_∈_, before, listed, only, own, is}
+use Rattle.model.specs.Lists.{_∈_, before, listed, only, own, just}
 use Rattle.model.specs.Observed.{lastWrite, observed}
 use Rattle.model.specs.Good.{holder, Free, WellFormed}
 use Rattle.model.specs.Sections.{isLast}
 use Rattle.model.specs.Reordering.{Next, Sees, Step, Correct, CorrectFrom}
 use Rattle.decision.specs.Grid.{side, sawOther, sawNone, pendingPass, readStep, writeStep, keeper, lockStep, mayStep}
-use Rattle.model.proofs.Tests.{by-cases, in-cons, clash, both, true-both, either-true, or-right, is-true, is-false, but-true, true-but, false-but, false-is, does-true, true-does, false-does}
+use Rattle.model.proofs.Tests.{by-cases, in-cons, clash, both, true-both, either-true, or-right, just-true, just-false, allBut-true, true-allBut, false-allBut, false-just, does-true, true-does, false-does}
 use Rattle.model.proofs.Lists.{mem-only, own-only, mem-listed, listed-mem}
 use Rattle.model.proofs.Histories.{Legal, enabled-out, lastWrite-mem, lastWrite-kept}
 use Rattle.model.proofs.Locks.{Locked, locked, free-only, locked-only, held-part, nobody-parts}
@@ -54,16 +54,16 @@ keeper-holder t x (k ∷ h) l i =
 -- ---- the two lists
 
 module _ (m : ℕ) where
-  pub side-own : (d : ℕ) → side m (is m d) d ≡ true
-  side-own d = by-cases (is m d) (λ e. rw (e, e)) (λ e. rw e (true-but m d (is-false m d e)))
+  pub side-own : (d : ℕ) → side m (just m d) d ≡ true
+  side-own d = by-cases (just m d) (λ e. rw (e, e)) (λ e. rw e (true-allBut m d (just-false m d e)))
 
   pub side-other : (b : Bool) (d : ℕ) → side m b d ≡ true → side m (not b) d ≡ false
-  side-other true d e = false-but m d (is-true m d e)
-  side-other false d e = false-is m d (but-true m d e)
+  side-other true d e = false-allBut m d (just-true m d e)
+  side-other false d e = false-just m d (allBut-true m d e)
 
   side-flip : (b : Bool) (d : ℕ) → side m b d ≡ false → side m (not b) d ≡ true
-  side-flip true d e = true-but m d (is-false m d e)
-  side-flip false d e = by-cases (is m d) (λ p. p) (λ p. clash (true-but m d (is-false m d p)) e)
+  side-flip true d e = true-allBut m d (just-false m d e)
+  side-flip false d e = by-cases (just m d) (λ p. p) (λ p. clash (true-allBut m d (just-false m d p)) e)
 
   side-back : (b : Bool) (d : ℕ) → side m (not b) d ≡ false → side m b d ≡ true
   side-back true d e = side-flip false d e
@@ -117,7 +117,7 @@ module _ (t : Trace) (m : ℕ) (b : Bool) (hs ho rs ro : List ℕ) (k : ℕ) whe
 
 unfoldable pub stepIn : Trace → ℕ → List ℕ → ℕ → List ℕ → Bool
 stepIn t m h k τ =
-    let b = is m (threadOf t k) in
+    let b = just m (threadOf t k) in
     mayStep t m b (only t (side m b) h) (only t (side m (not b)) h) (only t (side m b) τ) (only t (side m (not b)) τ) k
 
 abbrev pub Walk : Trace → ℕ → List ℕ → List ℕ → Type 0
@@ -242,7 +242,7 @@ module _ (t : Trace) (m : ℕ) where
   unfolding stepIn
   correct-passes w h [] l c = tt
   correct-passes w h (k ∷ τ) l c =
-      let b = is m (threadOf t k) in
+      let b = just m (threadOf t k) in
       let s = side-own m (threadOf t k) in (
         may-step t m b (only t (side m b) h) (only t (side m (not b)) h) (only t (side m b) τ) (only t (side m (not b)) τ) k
             (read-passes w h k τ l c b s) (write-passes w h k τ l c b s) (lock-passes w h k τ l c b s),
@@ -371,7 +371,7 @@ module _ (t : Trace) (m : ℕ) where
   unfolding stepIn
   passes-correct w h [] l i f p = tt
   passes-correct w h (k ∷ τ) l i f p =
-      let b = is m (threadOf t k) in
+      let b = just m (threadOf t k) in
       let s = side-own m (threadOf t k) in
       let st = passed-step h k τ b s (p .0) w l i f in
       (st, passes-correct w (k ∷ h) τ (st, l) (ahead-next h k τ b s (p .0) i) (f .2) (p .1))

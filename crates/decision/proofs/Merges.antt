@@ -11,10 +11,10 @@ use lib.Seq.{take-suc, drop-cons}
 use lib.Dec.{ltb}
 use borrow.Author.Tests.{ltb-true, lt-ltb}
 use Rattle.model.specs.Trace.{Trace, threadOf}
-use Rattle.model.specs.Lists.{_∈_, only, is}
+use Rattle.model.specs.Lists.{_∈_, only, just}
 use Rattle.model.specs.Race.{Preferred}
 use Rattle.decision.specs.Grid.{side, mayStep, passed, stepAt, after, orElse, path, Passes}
-use Rattle.model.proofs.Tests.{by-cases, clash, both, is-true, is-false, false-is, but-true, true-but}
+use Rattle.model.proofs.Tests.{by-cases, clash, both, just-true, just-false, false-just, allBut-true, true-allBut}
 use Rattle.decision.proofs.GridSteps.{side-other, stepIn, Walk}
 
 pub getD-mem : (l : List ℕ) (i : ℕ) → i < length l → getD l i 0 ∈ l
@@ -99,7 +99,7 @@ step-side : (t : Trace) (m : ℕ) (b : Bool) (h : List ℕ) (k : ℕ) (τ : List
     → stepIn t m h k τ ≡ mayStep t m b (only t (side m b) h) (only t (side m (not b)) h) (only t (side m b) τ) (only t (side m (not b)) τ) k
 unfolding stepIn
 step-side t m true h k τ s = rw s
-step-side t m false h k τ s = rw (false-is m (threadOf t k) (but-true m (threadOf t k) s))
+step-side t m false h k τ s = rw (false-just m (threadOf t k) (allBut-true m (threadOf t k) s))
 
 -- what comes next from the side b
 module _ (t : Trace) (m : ℕ) (b : Bool) (l o : List ℕ) (mine : (k : ℕ) → k ∈ l → side m b (threadOf t k) ≡ true) (i j : ℕ) (h : List ℕ) (at : Reached t m b l o i j h) where
@@ -177,14 +177,14 @@ module _ (t : Trace) (m : ℕ) (P Q : List ℕ) (moved : (k : ℕ) → k ∈ P �
       → Walk t m h τ ↔ Passes t m P Q i j τ
   walk-places [] h i j at p q = ((λ w. tt), (λ w. tt))
   walk-places (k ∷ τ) h i j at p q =
-      by-cases (is m (threadOf t k))
+      by-cases (just m (threadOf t k))
       (λ s.
       let z = at-place t m true P Q moved i j h at k τ s p q in
       let e = z .event in
       let ih = walk-places τ (k ∷ h) (suc i) j (rw e (next-reached t m true P Q moved i j h at (z .inside))) (z .own-left) (z .other-left) in
       rw s ((λ w. (sym (z .test) ∙ w .0, ih .0 (w .1))), (λ w. (z .test ∙ w .0, ih .1 (w .1)))))
       (λ s.
-      let z = at-place t m false Q P others j i h (turn i j h .0 at) k τ (true-but m (threadOf t k) (is-false m (threadOf t k) s)) q p in
+      let z = at-place t m false Q P others j i h (turn i j h .0 at) k τ (true-allBut m (threadOf t k) (just-false m (threadOf t k) s)) q p in
       let e = z .event in
       let r : Reached t m false Q P (suc j) i (k ∷ h) = rw e (next-reached t m false Q P others j i h (turn i j h .0 at) (z .inside)) in
       let ih = walk-places τ (k ∷ h) i (suc j) (turn i (suc j) (k ∷ h) .1 r) (z .other-left) (z .own-left) in
@@ -200,17 +200,17 @@ module _ (t : Trace) (m : ℕ) (P Q : List ℕ) (moved : (k : ℕ) → k ∈ P �
     -- a merge that is not at its end begins with an event of one list or of the other
     begins : (k : ℕ) (τ : List ℕ) → Merge t m true h (drop i P) (drop j Q) (k ∷ τ) → LeadsQ (k ∷ τ) ⊎ LeadsP (k ∷ τ)
     begins k τ x =
-        by-cases (is m (threadOf t k))
+        by-cases (just m (threadOf t k))
         (λ e. inr (merge-lead t m true P Q moved i j h at k τ e x))
-        (λ e. inl (merge-lead t m false Q P others j i h (turn i j h .0 at) k τ (true-but m (threadOf t k) (is-false m (threadOf t k) e)) (merge-flip t m h (drop i P) (drop j Q) (k ∷ τ) .0 x)))
+        (λ e. inl (merge-lead t m false Q P others j i h (turn i j h .0 at) k τ (true-allBut m (threadOf t k) (just-false m (threadOf t k) e)) (merge-flip t m h (drop i P) (drop j Q) (k ∷ τ) .0 x)))
 
     prefers : (ρ τ : List ℕ) → LeadsQ ρ → LeadsP τ → Preferred t m ρ τ
     prefers ρ τ x y =
         let p = step-inside t m true P Q moved i j h at (y .2) .0 in
         let q = step-inside t m false Q P others j i h (turn i j h .0 at) (x .2) .0 in
         rw (x .1, y .1) (inr (
-          but-true m (threadOf t (getD Q j 0)) (here t m false Q P others j i h (turn i j h .0 at) q),
-          is-true m (threadOf t (getD P i 0)) (here t m true P Q moved i j h at p),
+          allBut-true m (threadOf t (getD Q j 0)) (here t m false Q P others j i h (turn i j h .0 at) q),
+          just-true m (threadOf t (getD P i 0)) (here t m true P Q moved i j h at p),
         ))
 
     goes-on : i + j < length P + length Q → (τ : List ℕ) → Merge t m true h (drop i P) (drop j Q) τ → LeadsQ τ ⊎ LeadsP τ

@@ -10,7 +10,7 @@ use lib.ListN.{length}
 use lib.Dec.{eqb}
 use borrow.Author.Tests.{eqb-true, eqb-false}
 use Rattle.model.specs.Trace.{Trace, Valid, read, threadOf, kindOf, objectOf}
-use Rattle.model.specs.Lists.{_∈_, upTo, before, keep, anyIn, listed, only, own, is, but}
+use Rattle.model.specs.Lists.{_∈_, upTo, before, keep, anyIn, listed, only, own, just, allBut}
 use Rattle.model.specs.Observed.{observed}
 use Rattle.model.specs.Good.{WellFormed}
 use Rattle.model.specs.Reordering.{Sees, Correct}
@@ -19,7 +19,7 @@ use Rattle.model.specs.Race.{Candidate, Increasing, Shown}
 use Rattle.decision.specs.Rounds.{cone}
 use Rattle.decision.specs.Grid.{side, sawOther, MergeOf, Passes}
 use Rattle.decision.specs.Decision.{shownFor}
-use Rattle.model.proofs.Tests.{by-cases, clash, both, true-both, is-true}
+use Rattle.model.proofs.Tests.{by-cases, clash, both, true-both, just-true}
 use Rattle.model.proofs.Lists.{mem-keep, keep-mem, keep-keep, keep-reverse, keep-reverseAux, behind, mem-only, only-mem, own-only, mem-listed, listed-mem, any-mem, mem-any, mem-before, mem-reverse, reverse-mem, increasing-keep, increasing-unique}
 use Rattle.model.proofs.Histories.{own-increasing, lastWrite-kept}
 use Rattle.model.proofs.ConeEvents.{cone-valid}
@@ -68,9 +68,9 @@ module _ (t : Trace) (R : List ℕ) (m : ℕ) (v : (r : ℕ) → r ∈ R → Val
     next : own t (threadOf t k) h ≡ own t (threadOf t k) (before k)
     next =
         sym (own-only t (side m b) (threadOf t k) s h) ∙ ap (own t (threadOf t k)) back
-        ∙ keep-keep (λ j. is (threadOf t k) (threadOf t j)) (test b) (before k) (λ j n e.
+        ∙ keep-keep (λ j. just (threadOf t k) (threadOf t j)) (test b) (before k) (λ j n e.
         let z = mem-before k j n in
-        let same : threadOf t j ≡ threadOf t k = is-true (threadOf t k) (threadOf t j) e in
+        let same : threadOf t j ≡ threadOf t k = just-true (threadOf t k) (threadOf t j) e in
         true-both (cone-g j (brought in-cone (earlier (record { first = z .0; less = z .1; thread = same })))) (rw same s))
 
     reads : kindOf t k ≡ read → sawOther t m b k ≡ false → Sees t (only t (side m b) h) k
@@ -87,7 +87,7 @@ module _ (t : Trace) (R : List ℕ) (m : ℕ) (v : (r : ℕ) → r ∈ R → Val
   fit : (h τ : List ℕ) → ((b : Bool) → only t (side m b) (reverseAux τ h) ≡ keep (test b) (upTo (length t))) → Fit t m h τ
   fit h [] whole = tt
   fit h (k ∷ τ) whole =
-      let b = is m (threadOf t k) in
+      let b = just m (threadOf t k) in
       let s = side-own m (threadOf t k) in (
         record { valid = cone-valid t R v (in-cone h k τ whole b s); turn = next h k τ whole b s },
         (λ r c s f. reads h k τ whole c s r f),
@@ -110,7 +110,7 @@ module _ (t : Trace) (R : List ℕ) (m : ℕ) (v : (r : ℕ) → r ∈ R → Val
   P = own t m (cone t R)
 
   abbrev Q : List ℕ
-  Q = only t (but m) (cone t R)
+  Q = only t (allBut m) (cone t R)
 
   in-P : (k : ℕ) → k ∈ P → side m true (threadOf t k) ≡ true
   in-P k x = mem-only t (side m true) k (cone t R) x .1
@@ -122,7 +122,7 @@ module _ (t : Trace) (R : List ℕ) (m : ℕ) (v : (r : ℕ) → r ∈ R → Val
   start = record { own-passed = refl; other-passed = refl }
 
   -- a merge of the cone's events is correct exactly when every step passes its test on the grid
-  pub merge-correct-exactly : WellFormed t → (ρ : List ℕ) → MergeOf t m (cone t R) ρ → Correct t ρ ↔ Passes t m (own t m (cone t R)) (only t (but m) (cone t R)) 0 0 ρ
+  pub merge-correct-exactly : WellFormed t → (ρ : List ℕ) → MergeOf t m (cone t R) ρ → Correct t ρ ↔ Passes t m (own t m (cone t R)) (only t (allBut m) (cone t R)) 0 0 ρ
   merge-correct-exactly w ρ same =
       let x = merge-walk w ρ same in
       let y = walk-places t m P Q in-P in-Q ρ [] 0 0 start (same true) (same false) in
@@ -143,7 +143,7 @@ module _ (t : Trace) (R : List ℕ) (m : ℕ) (v : (r : ℕ) → r ∈ R → Val
 
   same-members : (l r : List ℕ) → ((b : Bool) → only t (side m b) l ≡ only t (side m b) r) → (k : ℕ) → k ∈ l → k ∈ r
   same-members l r same k x =
-      let b = is m (threadOf t k) in
+      let b = just m (threadOf t k) in
       let y : k ∈ only t (side m b) l = only-mem t (side m b) x (side-own m (threadOf t k)) in
       mem-only t (side m b) k r (rw (same b) at y) .0
 
@@ -166,7 +166,7 @@ module _ (t : Trace) (R : List ℕ) (m : ℕ) (v : (r : ℕ) → r ∈ R → Val
             (λ y. cone-exactly t R v k .0 (same-members ρ (cone t R) same k y)),
             (λ y. same-members (cone t R) ρ (λ b. sym (same b)) k (cone-exactly t R v k .1 y)),
           );
-          order = rw (x .other-side) (increasing-keep (λ k. but m (threadOf t k)) (cone t R) (cone-increasing t R));
+          order = rw (x .other-side) (increasing-keep (λ k. allBut m (threadOf t k)) (cone t R) (cone-increasing t R));
         }
 
     -- ---- what the search gives

@@ -6,7 +6,7 @@ use mathlib.Core.List.{List, [], _∷_, _++_}
 use lib.ListN.{length}
 use lib.Dec.{eqb, ltb}
 use Rattle.model.specs.Trace.{Trace, read, write, threadOf, kindOf, objectOf}
-use Rattle.model.specs.Lists.{own, only, but, anyIn, listed, numbers, pair}
+use Rattle.model.specs.Lists.{own, only, allBut, anyIn, listed, numbers, pair}
 use Rattle.decision.specs.Check.{isValid}
 use Rattle.model.specs.Listing.{Race}
 use Rattle.decision.specs.Rounds.{cone}
@@ -17,7 +17,7 @@ unfoldable pub shownFor : Trace → List ℕ → ℕ → Option (List ℕ)
 shownFor t R m =
     let c = cone t R in
     let P = own t m c in
-    let Q = only t (but m) c in
+    let Q = only t (allBut m) c in
     let ρ = path t m P Q (length P + length Q) 0 0 in
     cond (anyIn (λ r. listed r c) R) none ρ
 

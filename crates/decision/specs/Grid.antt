@@ -9,15 +9,15 @@ use mathlib.Core.List.{List, [], _∷_, reverse}
 use lib.ListN.{length, getD, take, drop}
 use lib.Dec.{eqb, ltb}
 use Rattle.model.specs.Trace.{Trace, read, write, acquire, release, threadOf, kindOf, objectOf, does}
-use Rattle.model.specs.Lists.{listed, only, is, but}
+use Rattle.model.specs.Lists.{listed, only, just, allBut}
 use Rattle.model.specs.Observed.{observed}
 use Rattle.model.specs.Sections.{isLast}
 use Rattle.decision.specs.Check.{isSeen}
 
 -- the threads of one of the two lists: m alone (true), or every other (false)
 abbrev pub side : ℕ → Bool → ℕ → Bool
-side m true = is m
-side m false = but m
+side m true = just m
+side m false = allBut m
 
 -- the read k observed a write of the list that is not the list b; it observed none of a history
 unfoldable pub sawOther : Trace → ℕ → Bool → ℕ → Bool
@@ -102,5 +102,5 @@ MergeOf t m c ρ = (b : Bool) → only t (side m b) ρ ≡ only t (side m b) c
 abbrev pub Passes : Trace → ℕ → List ℕ → List ℕ → ℕ → ℕ → List ℕ → Type 0
 Passes t m P Q i j [] = Unit {0}
 Passes t m P Q i j (k ∷ ρ) =
-    let b = is m (threadOf t k) in
+    let b = just m (threadOf t k) in
     (stepFrom t m P Q b i j ≡ true) × Passes t m P Q (cond b (suc i) i) (cond b j (suc j)) ρ

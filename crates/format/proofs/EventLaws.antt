@@ -7,7 +7,7 @@ use mathlib.Core.List.{List}
 use lib.ListN.{length, getD}
 use Rattle.model.specs.Trace.{Event, noEvent, at, threadOf, kindOf, objectOf, Valid}
 use Rattle.limits.specs.Limits.{eventBytes}
-use Rattle.format.specs.Bytes.{byte, number16, eventAt, eventsFrom, traceOf, trace, plain}
+use Rattle.format.specs.Bytes.{byte, number16, eventAt, eventsFrom, traceOf, traceIn, plain}
 use Rattle.limits.specs.declared.Event.{Event as Decoded}
 
 length-events : (z : ℕ) (s : List ℕ) (p n : ℕ) → length (eventsFrom z s p n) ≡ n
@@ -36,22 +36,22 @@ trace-at z s (suc j) v =
 
 -- ---- today's size
 
-module _ (s : List ℕ) (k : ℕ) (v : Valid (trace s) k) where
+module _ (s : List ℕ) (k : ℕ) (v : Valid (traceIn s) k) where
   -- the event's bytes are there
   pub bytes-there : eventBytes * (k - 1) + eventBytes ≤ length s
   bytes-there = let l = trace-length eventBytes s in let b = v .bounded in let p = v .positive in omega arith
 
-  pub thread-is : byte s (eventBytes * (k - 1)) ≡ threadOf (trace s) k
+  pub thread-is : byte s (eventBytes * (k - 1)) ≡ threadOf (traceIn s) k
   thread-is = sym (ap (λ (e : Event). e .thread) (trace-at eventBytes s k v))
 
-  pub kind-is : byte s (eventBytes * (k - 1) + 1) ≡ kindOf (trace s) k
+  pub kind-is : byte s (eventBytes * (k - 1) + 1) ≡ kindOf (traceIn s) k
   kind-is = sym (ap (λ (e : Event). e .kind) (trace-at eventBytes s k v))
 
-  pub object-is : (x : ℕ) → x ≡ number16 s (eventBytes * (k - 1) + 2) → x ≡ objectOf (trace s) k
+  pub object-is : (x : ℕ) → x ≡ number16 s (eventBytes * (k - 1) + 2) → x ≡ objectOf (traceIn s) k
   object-is x e = e ∙ sym (ap (λ (e : Event). e .object) (trace-at eventBytes s k v))
 
-pub count-is : (s : List ℕ) → length s / eventBytes ≡ length (trace s)
+pub count-is : (s : List ℕ) → length s / eventBytes ≡ length (traceIn s)
 count-is s = sym (trace-length eventBytes s)
 
-pub event-is : (s : List ℕ) (k : ℕ) (e : Decoded) → e .thread .number ≡ threadOf (trace s) k → e .kind ≡ kindOf (trace s) k → e .object ≡ objectOf (trace s) k → plain e ≡ at (trace s) k
+pub event-is : (s : List ℕ) (k : ℕ) (e : Decoded) → e .thread .number ≡ threadOf (traceIn s) k → e .kind ≡ kindOf (traceIn s) k → e .object ≡ objectOf (traceIn s) k → plain e ≡ at (traceIn s) k
 event-is s k e t d o = rw (t, d, o)

@@ -9,7 +9,7 @@ use lib.ListN.{length, take, drop, take-append-drop, length-take, length-drop}
 use lib.Seq.{drop-drop, getD-take, getD-drop, length-take-le}
 use Rattle.model.specs.Trace.{at, Valid}
 use Rattle.limits.specs.Limits.{eventBytes, trailerBytes}
-use Rattle.format.specs.Bytes.{byte, eventAt, trace}
+use Rattle.format.specs.Bytes.{byte, eventAt, traceIn}
 use Rattle.format.specs.Layout.{count, start, preamble, eventPart, events, trailer, Layout, Parts, recordingOf, fileOf, Placed}
 use Rattle.limits.specs.declared.Recording.{Recording}
 use Rattle.limits.specs.declared.Refusal.{Refusal}
@@ -99,9 +99,9 @@ module _ (s : List ℕ) (t : Recording) (p : Placed s t) where
       rw (e, m)
 
 -- the trace of those bytes is that of the file
-pub part-trace : (s ev : List ℕ) → ev ≡ eventPart eventBytes s → trace ev ≡ events eventBytes s
+pub part-trace : (s ev : List ℕ) → ev ≡ eventPart eventBytes s → traceIn ev ≡ events eventBytes s
 unfolding events
-part-trace s ev e = ap trace e
+part-trace s ev e = ap traceIn e
 
 -- ---- what a reading says of the refusal
 

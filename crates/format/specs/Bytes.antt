@@ -29,8 +29,8 @@ unfoldable pub traceOf : ℕ → List ℕ → Trace
 traceOf z s = eventsFrom z s 0 (length s / z)
 
 -- the same at the size that events have
-abbrev pub trace : List ℕ → Trace
-trace s = traceOf eventBytes s
+abbrev pub traceIn : List ℕ → Trace
+traceIn s = traceOf eventBytes s
 
 -- an event of the code as one of the model
 abbrev pub plain : Decoded → Event

@@ -8,7 +8,7 @@ ghost use Prim.Native.Nat.{_+_, _≤_, _<_};
 ghost use lib.ListN.{length};
 ghost use Rattle.model.specs.Trace.{Valid, at, threadOf, kindOf, objectOf};
 ghost use Rattle.limits.specs.Limits.{eventBytes};
-ghost use Rattle.format.specs.Bytes.{number16, number32, trace, plain};
+ghost use Rattle.format.specs.Bytes.{number16, number32, traceIn, plain};
 ghost use Rattle.format.specs.Layout.{Sized, Counted, isMarked, layoutRefusal, fileOf, Placed, partOf};
 ghost use Rattle.format.specs.Readable.{isReadableByte, isReadable};
 
@@ -151,39 +151,39 @@ pub fn events<'a>(file: &'a [u8], t: Recording) -> &'a [u8]
 
 // How many events there are.
 pub fn count(ev: &[u8]) -> usize
-    ensures { λ r. ⌜ r ≡ length (trace (now (ev .entry))) ⌝ }
+    ensures { λ r. ⌜ r ≡ length (traceIn (now (ev .entry))) ⌝ }
 {
     ev.len() / Event::BYTES
 }
 
 // The thread of event k. Events are counted from 1.
 pub fn thread_at(ev: &[u8], k: usize) -> u8
-    requires { ⌜ Valid (trace (now ev)) k ⌝ }
-    ensures { λ r. ⌜ r ≡ threadOf (trace (now (ev .entry))) k ⌝ }
+    requires { ⌜ Valid (traceIn (now ev)) k ⌝ }
+    ensures { λ r. ⌜ r ≡ threadOf (traceIn (now (ev .entry))) k ⌝ }
 {
     ev[Event::BYTES * (k - 1)]
 }
 
 // The kind of event k.
 pub fn kind_at(ev: &[u8], k: usize) -> u8
-    requires { ⌜ Valid (trace (now ev)) k ⌝ }
-    ensures { λ r. ⌜ r ≡ kindOf (trace (now (ev .entry))) k ⌝ }
+    requires { ⌜ Valid (traceIn (now ev)) k ⌝ }
+    ensures { λ r. ⌜ r ≡ kindOf (traceIn (now (ev .entry))) k ⌝ }
 {
     ev[Event::BYTES * (k - 1) + 1]
 }
 
 // The cell or lock of event k.
 pub fn object_at(ev: &[u8], k: usize) -> usize
-    requires { ⌜ Valid (trace (now ev)) k ⌝ }
-    ensures { λ r. ⌜ r ≡ objectOf (trace (now (ev .entry))) k ⌝ }
+    requires { ⌜ Valid (traceIn (now ev)) k ⌝ }
+    ensures { λ r. ⌜ r ≡ objectOf (traceIn (now (ev .entry))) k ⌝ }
 {
     read16(ev, Event::BYTES * (k - 1) + 2)
 }
 
 // Event k.
 pub fn event_at(ev: &[u8], k: usize) -> Event
-    requires { ⌜ Valid (trace (now ev)) k ⌝ }
-    ensures { λ r. ⌜ plain r ≡ at (trace (now (ev .entry))) k ⌝ }
+    requires { ⌜ Valid (traceIn (now ev)) k ⌝ }
+    ensures { λ r. ⌜ plain r ≡ at (traceIn (now (ev .entry))) k ⌝ }
 {
     Event {
         thread: Thread {

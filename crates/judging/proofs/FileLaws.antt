@@ -13,7 +13,7 @@ use Rattle.model.proofs.RowsExact.{both-quiet, tests-first, append-first}
 use Rattle.limits.specs.Limits.{eventBytes}
 use Rattle.limits.specs.Refusals.{paper, Asked, settled}
 use Rattle.limits.proofs.PaperLaws.{asked-exactly}
-use Rattle.format.specs.Bytes.{trace}
+use Rattle.format.specs.Bytes.{traceIn}
 use Rattle.format.specs.Layout.{Placed, layoutRefusal, fileOf, partOf}
 use Rattle.format.proofs.LayoutExact.{layout-none}
 use Rattle.format.proofs.PartLaws.{number-of-events, part-trace, read-good, read-refused}
@@ -57,14 +57,14 @@ file-asked s is = asked-exactly (λ q. is (quiet-file s .0 q)) (refusalOf s) (fi
 -- ---- judging the events of a file that has been read
 
 module _ (s : List ℕ) (t : Recording) (p : Placed s t) (ev : List ℕ) (part : ev ≡ partOf s) where
-  pub few-events : length (trace ev) ≤ maxEvents
+  pub few-events : length (traceIn ev) ≤ maxEvents
   few-events = let n = number-of-events eventBytes s (p .layout) four in let l = p .layout .few in rw (part-trace s ev part) (omega arith)
 
   clean : layoutRefusal eventBytes s ≡ none
   clean = layout-none s eventBytes .1 (p .layout)
 
-  module _ {n k : ℕ} {locks : Locks} (j : Judging (trace ev) n k locks) where
-    pub events-refused : k ≤ n → (u : Effect) → u ≡ effectOf (trace ev) k → (r : Refusal) → u ≡ Refused r
+  module _ {n k : ℕ} {locks : Locks} (j : Judging (traceIn ev) n k locks) where
+    pub events-refused : k ≤ n → (u : Effect) → u ≡ effectOf (traceIn ev) k → (r : Refusal) → u ≡ Refused r
         → FileRefused r ≡ fileOf s (refusalOf s)
     unfolding fileRefusal
     events-refused h u e r f = rw (clean, ← part-trace s ev part, judging-stop j h u e r f)
@@ -102,5 +102,5 @@ module _ (s : List ℕ) (f : File) where
       pub judged-placed : Placed s t
       judged-placed = record { layout = judged-good .layout; span = read-good s (refusalOf s) t (sym is ∙ e) .1 }
 
-      pub judged-trace : (ev : List ℕ) → ev ≡ partOf s → Good (trace ev)
+      pub judged-trace : (ev : List ℕ) → ev ≡ partOf s → Good (traceIn ev)
       judged-trace ev part = rw (part-trace s ev part) (judged-good .good)

@@ -6,7 +6,7 @@ use limits::Recording;
 use limits::Refusal;
 ghost use mathlib.Core.Path.{_≡_};
 ghost use Rattle.model.specs.Refusals.{InLimits};
-ghost use Rattle.format.specs.Bytes.{trace};
+ghost use Rattle.format.specs.Bytes.{traceIn};
 ghost use Rattle.format.specs.Layout.{Placed, fileOf};
 ghost use Rattle.judging.specs.Judged.{refusalOf};
 ghost use Rattle.judging.specs.Walk.{Ready, effectOf};
@@ -26,8 +26,8 @@ fn lock_effect<'a>(
     holder: &'a [u8; Event::OBJECTS],
     depth: &'a [u16; Event::OBJECTS],
 ) -> Effect
-    requires { ⌜ Ready (trace (now ev)) k (now holder) (now depth) × InLimits (trace (now ev)) k ⌝ }
-    ensures { λ r. ⌜ r ≡ effectOf (trace (now (ev .entry))) k ⌝ }
+    requires { ⌜ Ready (traceIn (now ev)) k (now holder) (now depth) × InLimits (traceIn (now ev)) k ⌝ }
+    ensures { λ r. ⌜ r ≡ effectOf (traceIn (now (ev .entry))) k ⌝ }
 {
     let e = format::event_at(ev, k);
     let number = k as u16;
@@ -67,8 +67,8 @@ fn effect_at<'a>(
     holder: &'a [u8; Event::OBJECTS],
     depth: &'a [u16; Event::OBJECTS],
 ) -> Effect
-    requires { ⌜ Ready (trace (now ev)) k (now holder) (now depth) ⌝ }
-    ensures { λ r. ⌜ r ≡ effectOf (trace (now (ev .entry))) k ⌝ }
+    requires { ⌜ Ready (traceIn (now ev)) k (now holder) (now depth) ⌝ }
+    ensures { λ r. ⌜ r ≡ effectOf (traceIn (now (ev .entry))) k ⌝ }
 {
     let e = format::event_at(ev, k);
     let number = k as u16;

@@ -19,15 +19,15 @@ spaced-more : (list : List ℕ) (i : ℕ) → i < length list → spacedAll (tak
 spaced-more list i h = rw (add-one i, take-suc list i 0 h, spaced-append (take i list) (getD list i 0 ∷ []), append-nil (spaced (getD list i 0)))
 
 -- the first i of n numbers are written
-pub record Written (list : List ℕ) (n at : ℕ) (out₀ out : List ℕ) (end i : ℕ) : Type 0 where
+pub record Begun (list : List ℕ) (n at : ℕ) (out₀ out : List ℕ) (end i : ℕ) : Type 0 where
   pub done : AppendsShort (6 * i) (spacedAll (take i list)) at out₀ out end
   pub upto : i ≤ n
 
-pub events-start : (list : List ℕ) (n at : ℕ) (out : List ℕ) → at + 6 * n ≤ length out → Written list n at out out at 0
+pub events-start : (list : List ℕ) (n at : ℕ) (out : List ℕ) → at + 6 * n ≤ length out → Begun list n at out out at 0
 events-start list n at out h = record { done = record { appends = appends-nothing at out (omega arith); short = omega arith }; upto = omega arith }
 
-module _ {list : List ℕ} {n at : ℕ} {out₀ out : List ℕ} {end i : ℕ} (w : Written list n at out₀ out end i) where
-  pub events-on : n ≤ length list → i < n → {out′ : List ℕ} {r : ℕ} → AppendsShort 6 (spaced (getD list i 0)) end out out′ r → Written list n at out₀ out′ r (i + 1)
+module _ {list : List ℕ} {n at : ℕ} {out₀ out : List ℕ} {end i : ℕ} (w : Begun list n at out₀ out end i) where
+  pub events-on : n ≤ length list → i < n → {out′ : List ℕ} {r : ℕ} → AppendsShort 6 (spaced (getD list i 0)) end out out′ r → Begun list n at out₀ out′ r (i + 1)
   events-on h l b =
       let a = w .done in record {
         done = record { appends = rw (spaced-more list i (omega arith)) (appends-then (a .appends) (b .appends)); short = let e = a .short in let f = b .short in omega arith };

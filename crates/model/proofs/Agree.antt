@@ -8,7 +8,7 @@ use mathlib.Core.List.{List, [], _∷_, _++_, reverse, reverse-reverse, List·Me
 use lib.ListN.{length, length-append, List·getD-append}
 use lib.Dec.{eqb, leb}
 use Rattle.model.specs.Trace.{Trace, Event, Valid, write, acquire, release, noEvent, at, threadOf, kindOf, objectOf, does}
-use Rattle.model.specs.Lists.{_∈_, before, put, only, is}
+use Rattle.model.specs.Lists.{_∈_, before, consIf, only, just}
 use Rattle.model.specs.Observed.{lastWrite, observed}
 use Rattle.model.specs.Good.{depth, holder, Free}
 use Rattle.model.specs.Reordering.{Next, Enabled, EnabledAfter, Step, Correct}
@@ -45,7 +45,7 @@ module _ (u v : Trace) (n : ℕ) (same : Agree u v n) where
   only-agree s [] w = refl
   only-agree s (k ∷ h) w =
       let ih = only-agree s h (λ j m. w j (List·Memᴰ·tail m)) in
-      ap₂ (λ (e : Event) (l : List ℕ). put (s (e .thread)) k l) (same k (w k (List·Memᴰ·head refl))) ih
+      ap₂ (λ (e : Event) (l : List ℕ). consIf (s (e .thread)) k l) (same k (w k (List·Memᴰ·head refl))) ih
 
   lastWrite-agree : (x : ℕ) (h : List ℕ) → Within n h → lastWrite u x h ≡ lastWrite v x h
   lastWrite-agree x [] w = refl
@@ -78,7 +78,7 @@ module _ (u v : Trace) (n : ℕ) (same : Agree u v n) where
     turn =
         let c = threadOf v k in
         let e = same-thread k p in
-        sym (only-agree (is c) h w) ∙ (rw e at (st .turn)) ∙ only-agree (is c) (before k) (within-before n k p);
+        sym (only-agree (just c) h w) ∙ (rw e at (st .turn)) ∙ only-agree (just c) (before k) (within-before n k p);
   }
 
   enabled-agree : (h : List ℕ) (k : ℕ) → Within n h → k ≤ n → Valid v k → Enabled u h k → Enabled v h k

@@ -9,11 +9,11 @@ use lib.ListN.{length}
 use lib.Dec.{leb}
 use borrow.Author.Tests.{leb-true, leb-false}
 use Rattle.model.specs.Trace.{Trace, Valid, read, write, threadOf, kindOf, objectOf, does}
-use Rattle.model.specs.Lists.{_∈_, upTo, before, keep, own, is}
+use Rattle.model.specs.Lists.{_∈_, upTo, before, keep, own, just}
 use Rattle.model.specs.Observed.{lastWrite, observed}
 use Rattle.model.specs.Reordering.{Next, Enabled, Sees, Step, Correct, CorrectFrom}
 use Rattle.model.specs.Race.{Increasing}
-use Rattle.model.proofs.Tests.{by-cases, in-cons, is-true, true-is, false-is}
+use Rattle.model.proofs.Tests.{by-cases, in-cons, just-true, true-just, false-just}
 use Rattle.model.proofs.Lists.{nearest-mem, nearest-kept, keep-reverse, mem-own, own-mem, upTo-mem, mem-upTo, mem-before, before-mem, increasing-reverse}
 
 -- the history of a correct reordering
@@ -43,16 +43,16 @@ module _ (t : Trace) where
   -- a thread's events up to one of its own
   own-here : (c k : ℕ) → 1 ≤ k → threadOf t k ≡ c → own t c (upTo k) ≡ k ∷ own t c (before k)
   own-here c zero p e = absurd (omega arith)
-  own-here c (suc k) p e = rw (true-is c (threadOf t (suc k)) e) refl
+  own-here c (suc k) p e = rw (true-just c (threadOf t (suc k)) e) refl
 
   -- each thread's events in it are the beginning of that thread's events
   pub beginning : (h : List ℕ) → Legal t h → (c : ℕ) → (m : ℕ) × (m ≤ length t) × (own t c h ≡ own t c (upTo m))
   beginning [] l c = (0, zero-le, refl)
   beginning (k ∷ h) l c =
       let ih = beginning h (l .1) c in
-      by-cases (is c (threadOf t k))
+      by-cases (just c (threadOf t k))
       (λ e.
-      let p : threadOf t k ≡ c = is-true c (threadOf t k) e in
+      let p : threadOf t k ≡ c = just-true c (threadOf t k) e in
       let v = l .0 .enabled .next .valid in
       let n : own t c h ≡ own t c (before k) = rw p at (l .0 .enabled .next .turn) in
       (k, v .bounded, rw e (ap (λ (x : List ℕ). k ∷ x) n ∙ sym (own-here c k (v .positive) p))))
@@ -61,11 +61,11 @@ module _ (t : Trace) where
   pub own-beginning : (ρ : List ℕ) → Correct t ρ → (c : ℕ) → (m : ℕ) × (m ≤ length t) × (own t c ρ ≡ reverse (own t c (upTo m)))
   own-beginning ρ d c =
       let b = beginning (reverse ρ) (to-legal t ρ d) c in
-      (b .0, b .1, ap (own t c) (sym (reverse-reverse ρ)) ∙ keep-reverse (λ k. is c (threadOf t k)) (reverse ρ) ∙ ap reverse (b .2))
+      (b .0, b .1, ap (own t c) (sym (reverse-reverse ρ)) ∙ keep-reverse (λ k. just c (threadOf t k)) (reverse ρ) ∙ ap reverse (b .2))
 
   -- in the trace's order
   pub own-increasing : (c : ℕ) (ρ : List ℕ) → Correct t ρ → Increasing (own t c ρ)
-  own-increasing c ρ d = let b = own-beginning ρ d c in rw (b .2) (increasing-reverse (λ k. is c (threadOf t k)) (b .0))
+  own-increasing c ρ d = let b = own-beginning ρ d c in rw (b .2) (increasing-reverse (λ k. just c (threadOf t k)) (b .0))
 
   -- no event of the thread between m and a
   quiet : (c m a : ℕ) → m ≤ a → ((k : ℕ) → m < k → k ≤ a → threadOf t k ≢ c) → own t c (upTo m) ≡ own t c (upTo a)
@@ -74,7 +74,7 @@ module _ (t : Trace) where
       by-cases (leb m a)
       (λ e.
       let q = leb-true m a e in
-      rw (false-is c (threadOf t (suc a)) (f (suc a) (omega arith) (omega arith))) (quiet c m a q (λ k u v. f k u (omega arith))))
+      rw (false-just c (threadOf t (suc a)) (f (suc a) (omega arith) (omega arith))) (quiet c m a q (λ k u v. f k u (omega arith))))
       (λ e. let q = leb-false m a e in let z : m ≡ suc a = omega arith in rw z refl)
 
   -- after a legal history that lacks a and has all earlier events of its thread a is next, and enabled

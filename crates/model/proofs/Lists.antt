@@ -11,9 +11,9 @@ use lib.Seq.{sets, sets-eq, take-append-seam}
 use lib.Dec.{eqb, leb}
 use borrow.Author.Tests.{eqb-true, eq-eqb, leb-true, leb-false}
 use Rattle.model.specs.Trace.{Trace, Valid, threadOf}
-use Rattle.model.specs.Lists.{_∈_, upTo, before, numbers, put, keep, nearest, anyIn, listed, inFront, only, own, is}
+use Rattle.model.specs.Lists.{_∈_, upTo, before, numbers, consIf, keep, nearest, anyIn, listed, inFront, only, own, just}
 use Rattle.model.specs.Race.{Increasing}
-use Rattle.model.proofs.Tests.{by-cases, in-cons, clash, is-true, true-is}
+use Rattle.model.proofs.Tests.{by-cases, in-cons, clash, just-true, true-just}
 
 -- ---- the members that pass a test
 
@@ -24,7 +24,7 @@ module _ (p : ℕ → Bool) where
       let ih : k ∈ keep p l → (k ∈ j ∷ l) × (p k ≡ true) = λ n. (List·Memᴰ·tail (mem-keep k l n .0), mem-keep k l n .1) in
       by-cases (p j) (λ e. in-cons (rw e at m) (λ q. (List·Memᴰ·head q, rw q e)) ih) (λ e. ih (rw e at m))
 
-  put-tail : (k j : ℕ) (b : Bool) (l : List ℕ) → k ∈ l → k ∈ put b j l
+  put-tail : (k j : ℕ) (b : Bool) (l : List ℕ) → k ∈ l → k ∈ consIf b j l
   put-tail k j true l m = List·Memᴰ·tail m
   put-tail k j false l m = m
 
@@ -87,7 +87,7 @@ module _ (p : ℕ → Bool) where
 -- two tests that agree on the members
 pub keep-same : (p q : ℕ → Bool) (l : List ℕ) → ((k : ℕ) → k ∈ l → p k ≡ q k) → keep p l ≡ keep q l
 keep-same p q [] f = refl
-keep-same p q (k ∷ l) f = rw (f k (List·Memᴰ·head refl)) (ap (put (q k) k) (keep-same p q l (λ j m. f j (List·Memᴰ·tail m))))
+keep-same p q (k ∷ l) f = rw (f k (List·Memᴰ·head refl)) (ap (consIf (q k) k) (keep-same p q l (λ j m. f j (List·Memᴰ·tail m))))
 
 -- a wider test first changes nothing
 pub keep-keep : (p q : ℕ → Bool) (l : List ℕ) → ((k : ℕ) → k ∈ l → p k ≡ true → q k ≡ true) → keep p (keep q l) ≡ keep p l
@@ -95,7 +95,7 @@ keep-keep p q [] f = refl
 keep-keep p q (k ∷ l) f =
     let ih = keep-keep p q l (λ j m. f j (List·Memᴰ·tail m)) in
     by-cases (q k)
-    (λ e. rw e (ap (put (p k) k) ih))
+    (λ e. rw e (ap (consIf (p k) k) ih))
     (λ e. by-cases (p k) (λ d. clash (f k (List·Memᴰ·head refl) d) e) (λ d. rw (e, d) ih))
 
 -- where some members are left out, the nearest stays if it is kept, and so does that there is none
@@ -130,14 +130,14 @@ module _ (t : Trace) (s : ℕ → Bool) where
   only-mem m e = keep-mem (λ j. s (threadOf t j)) m e
 
   pub own-only : (c : ℕ) → s c ≡ true → (h : List ℕ) → own t c (only t s h) ≡ own t c h
-  own-only c e h = keep-keep (λ j. is c (threadOf t j)) (λ j. s (threadOf t j)) h (λ j m q. rw (is-true c (threadOf t j) q) e)
+  own-only c e h = keep-keep (λ j. just c (threadOf t j)) (λ j. s (threadOf t j)) h (λ j m q. rw (just-true c (threadOf t j) q) e)
 
 module _ (t : Trace) (c : ℕ) where
   pub mem-own : (k : ℕ) (h : List ℕ) → k ∈ own t c h → (k ∈ h) × (threadOf t k ≡ c)
-  mem-own k h m = let x = mem-only t (is c) k h m in (x .0, is-true c (threadOf t k) (x .1))
+  mem-own k h m = let x = mem-only t (just c) k h m in (x .0, just-true c (threadOf t k) (x .1))
 
   pub own-mem : {k : ℕ} {h : List ℕ} → k ∈ h → threadOf t k ≡ c → k ∈ own t c h
-  own-mem {k} m e = only-mem t (is c) m (true-is c (threadOf t k) e)
+  own-mem {k} m e = only-mem t (just c) m (true-just c (threadOf t k) e)
 
 -- ---- a list read backwards
 

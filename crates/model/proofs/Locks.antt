@@ -10,11 +10,11 @@ use lib.ListN.{length}
 use lib.Dec.{leb}
 use borrow.Author.Tests.{leb-true, leb-false}
 use Rattle.model.specs.Trace.{Trace, Valid, read, acquire, release, threadOf, kindOf, objectOf, does}
-use Rattle.model.specs.Lists.{_∈_, upTo, before, only, is}
+use Rattle.model.specs.Lists.{_∈_, upTo, before, only, just}
 use Rattle.model.specs.Observed.{observed}
 use Rattle.model.specs.Good.{depth, holder, Free, Held, WellFormed}
 use Rattle.model.specs.Reordering.{Next, Sees}
-use Rattle.model.proofs.Tests.{by-cases, does-true, true-is}
+use Rattle.model.proofs.Tests.{by-cases, does-true, true-just}
 use Rattle.model.proofs.Lists.{own-only}
 use Rattle.model.proofs.Histories.{Legal, lastWrite-kept}
 
@@ -173,8 +173,8 @@ module _ (t : Trace) (w : WellFormed t) where
   held-next h l k en r =
       let c = threadOf t k in
       let x = objectOf t k in
-      let held : through (is c) (holder t x (before k)) ≡ suc c = ap (through (is c)) (w .given-back k (en .valid) r) ∙ rw (true-is c c refl) in
-      held-part t (is c) x h l c (ap (holder t x) (en .turn) ∙ lock-only t (is c) x (before k) (locked-before k (en .valid .bounded)) .0 ∙ held) .0
+      let held : through (just c) (holder t x (before k)) ≡ suc c = ap (through (just c)) (w .given-back k (en .valid) r) ∙ rw (true-just c c refl) in
+      held-part t (just c) x h l c (ap (holder t x) (en .turn) ∙ lock-only t (just c) x (before k) (locked-before k (en .valid .bounded)) .0 ∙ held) .0
 
   pub locked : (h : List ℕ) → Legal t h → Locked t h
   unfolding Locked

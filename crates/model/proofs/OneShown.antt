@@ -5,11 +5,11 @@ use mathlib.Core.Logic.{_≢_, _⊎_, inl, inr, ⊎-elim}
 use mathlib.Core.Bool.{Bool}
 use mathlib.Core.List.{List, [], _∷_, reverse, nil≢cons, head-eq-of-cons-eq, tail-eq-of-cons-eq}
 use Rattle.model.specs.Trace.{Trace, Valid, threadOf}
-use Rattle.model.specs.Lists.{_∈_, only, own, is, but, pair}
+use Rattle.model.specs.Lists.{_∈_, only, own, just, allBut, pair}
 use Rattle.model.specs.Reordering.{BringsAll, BringsBoth}
 use Rattle.model.specs.Cone.{root}
 use Rattle.model.specs.Race.{Candidate, Increasing, Preferred, Shown, Witness, Conflicting}
-use Rattle.model.proofs.Tests.{by-cases, is-true, is-false, true-but, false-but}
+use Rattle.model.proofs.Tests.{by-cases, just-true, just-false, true-allBut, false-allBut}
 use Rattle.model.proofs.Lists.{mem-only, only-mem, mem-reverse, reverse-mem, increasing-unique}
 use Rattle.model.proofs.Histories.{to-legal, own-increasing, enabled-by}
 use Rattle.model.proofs.Threads.{conflicting-apart}
@@ -40,37 +40,37 @@ module _ (t : Trace) (m : ℕ) where
   same-head x y ρ τ e c =
       ⊎-elim (λ p. inl (cc)) (λ p. inr (⊎-elim (λ q. inl (inl (e, q))) (λ q. inr (inl (sym e, q))) p)) c
 
-  same-sides : (ρ τ : List ℕ) → own t m ρ ≡ own t m τ → only t (but m) ρ ≡ only t (but m) τ → Compared ρ τ
+  same-sides : (ρ τ : List ℕ) → own t m ρ ≡ own t m τ → only t (allBut m) ρ ≡ only t (allBut m) τ → Compared ρ τ
   same-sides [] [] p q = inl refl
   same-sides [] (y ∷ τ) p q =
-      by-cases (is m (threadOf t y))
+      by-cases (just m (threadOf t y))
       (λ e. absurd (nil≢cons (rw e at p)))
-      (λ e. let f = true-but m (threadOf t y) (is-false m (threadOf t y) e) in absurd (nil≢cons (rw f at q)))
+      (λ e. let f = true-allBut m (threadOf t y) (just-false m (threadOf t y) e) in absurd (nil≢cons (rw f at q)))
   same-sides (x ∷ ρ) [] p q =
-      by-cases (is m (threadOf t x))
+      by-cases (just m (threadOf t x))
       (λ e. absurd (nil≢cons (sym (rw e at p))))
-      (λ e. let f = true-but m (threadOf t x) (is-false m (threadOf t x) e) in absurd (nil≢cons (sym (rw f at q))))
+      (λ e. let f = true-allBut m (threadOf t x) (just-false m (threadOf t x) e) in absurd (nil≢cons (sym (rw f at q))))
   same-sides (x ∷ ρ) (y ∷ τ) p q =
-      by-cases (is m (threadOf t x))
+      by-cases (just m (threadOf t x))
       (λ e.
-      by-cases (is m (threadOf t y))
+      by-cases (just m (threadOf t y))
       (λ f.
       let d : (x ∷ own t m ρ) ≡ (y ∷ own t m τ) = rw (e, f) at p in
-      let o : only t (but m) ρ ≡ only t (but m) τ = rw (false-but m (threadOf t x) (is-true m (threadOf t x) e), false-but m (threadOf t y) (is-true m (threadOf t y) f)) at q in
+      let o : only t (allBut m) ρ ≡ only t (allBut m) τ = rw (false-allBut m (threadOf t x) (just-true m (threadOf t x) e), false-allBut m (threadOf t y) (just-true m (threadOf t y) f)) at q in
       same-head x y ρ τ (head-eq-of-cons-eq d) (same-sides ρ τ (tail-eq-of-cons-eq d) o))
-      (λ f. inr (inr (others-first t m τ ρ (is-false m (threadOf t y) f) (is-true m (threadOf t x) e)))))
+      (λ f. inr (inr (others-first t m τ ρ (just-false m (threadOf t y) f) (just-true m (threadOf t x) e)))))
       (λ e.
-      by-cases (is m (threadOf t y))
-      (λ f. inr (inl (others-first t m ρ τ (is-false m (threadOf t x) e) (is-true m (threadOf t y) f))))
+      by-cases (just m (threadOf t y))
+      (λ f. inr (inl (others-first t m ρ τ (just-false m (threadOf t x) e) (just-true m (threadOf t y) f))))
       (λ f.
-      let d : (x ∷ only t (but m) ρ) ≡ (y ∷ only t (but m) τ) =
-      rw (true-but m (threadOf t x) (is-false m (threadOf t x) e), true-but m (threadOf t y) (is-false m (threadOf t y) f)) at q in
+      let d : (x ∷ only t (allBut m) ρ) ≡ (y ∷ only t (allBut m) τ) =
+      rw (true-allBut m (threadOf t x) (just-false m (threadOf t x) e), true-allBut m (threadOf t y) (just-false m (threadOf t y) f)) at q in
       same-head x y ρ τ (head-eq-of-cons-eq d) (same-sides ρ τ (rw (e, f) at p) (tail-eq-of-cons-eq d))))
 
 -- two candidates that differ are told apart by the preference: the rule never meets two events outside the moved thread
 pub preference-decides : (t : Trace) (R : List ℕ) (m : ℕ) (ρ τ : List ℕ) → Candidate t R m ρ → Candidate t R m τ → (ρ ≡ τ) ⊎ (Preferred t m ρ τ ⊎ Preferred t m τ ρ)
 preference-decides t R m ρ τ c d =
-    same-sides t m ρ τ (side (is m) (own-increasing t m ρ (c .correct)) (own-increasing t m τ (d .correct))) (side (but m) (c .order) (d .order))
+    same-sides t m ρ τ (side (just m) (own-increasing t m ρ (c .correct)) (own-increasing t m τ (d .correct))) (side (allBut m) (c .order) (d .order))
   where
     side : (s : ℕ → Bool) → Increasing (only t s ρ) → Increasing (only t s τ) → only t s ρ ≡ only t s τ
     side s i j =

@@ -9,12 +9,12 @@ use lib.ListN.{length}
 use lib.Dec.{eqb, leb}
 use borrow.Author.Tests.{eqb-true, eqb-false, leb-true, leb-false}
 use Rattle.model.specs.Trace.{Trace, Valid, read, write, threadOf, kindOf, objectOf, does}
-use Rattle.model.specs.Lists.{_∈_, upTo, before, numbers, own, is}
+use Rattle.model.specs.Lists.{_∈_, upTo, before, numbers, own, just}
 use Rattle.model.specs.Observed.{observed}
 use Rattle.model.specs.Good.{WellFormed}
 use Rattle.model.specs.Reordering.{StandsAfter, CorrectReordering, EnabledAfter, Sees, Step, Correct, CorrectFrom}
 use Rattle.model.specs.Cone.{Earlier}
-use Rattle.model.proofs.Tests.{by-cases, true-is}
+use Rattle.model.proofs.Tests.{by-cases, true-just}
 use Rattle.model.proofs.Lists.{keep-reverse, keep-append, behind, nearest-none, none-nearest, mem-reverse, reverse-mem, reverse-split}
 use Rattle.model.proofs.Histories.{Legal, to-legal, of-legal, legal-valid, own-beginning, enabled-by, mem-enabled, enabled-out}
 
@@ -32,7 +32,7 @@ module _ (t : Trace) where
       by-cases (leb m n)
       (λ e.
       let ih = later c n m (leb-true m n e) in
-      by-cases (is c (threadOf t (suc n))) (λ q. (suc n ∷ ih .0, rw q (ap (λ (x : List ℕ). suc n ∷ x) (ih .1)))) (λ q. (ih .0, rw q (ih .1))))
+      by-cases (just c (threadOf t (suc n))) (λ q. (suc n ∷ ih .0, rw q (ap (λ (x : List ℕ). suc n ∷ x) (ih .1)))) (λ q. (ih .0, rw q (ih .1))))
       (λ e. let q = leb-false m n e in let z : m ≡ suc n = omega arith in ([], rw z refl))
 
   module _ (ρ : List ℕ) (c : Correct t ρ) where
@@ -47,7 +47,7 @@ module _ (t : Trace) where
         let b = own-beginning t ρ c d in
         let x = later d (length t) (b .0) (b .1) in (
           reverse (x .0),
-          keep-reverse (λ k. is d (threadOf t k)) (upTo (length t)) ∙ ap reverse (x .1) ∙ reverse-append (x .0) (own t d (upTo (b .0))) ∙ ap (λ (l : List ℕ). l ++ reverse (x .0)) (sym (b .2)),
+          keep-reverse (λ k. just d (threadOf t k)) (upTo (length t)) ∙ ap reverse (x .1) ∙ reverse-append (x .0) (own t d (upTo (b .0))) ∙ ap (λ (l : List ℕ). l ++ reverse (x .0)) (sym (b .2)),
         )
 
     correct-words : CorrectReordering t ρ
@@ -68,10 +68,10 @@ module _ (t : Trace) where
     next-at : (σ : List ℕ) (k : ℕ) → StandsAfter ρ σ k → own t (threadOf t k) (reverse σ) ≡ own t (threadOf t k) (before k)
     next-at σ k s =
         let c = threadOf t k in
-        let p : ℕ → Bool = λ j. is c (threadOf t j) in
+        let p : ℕ → Bool = λ j. just c (threadOf t j) in
         let b = w .beginnings c in
         let τ = own t c (s .0) ++ b .0 in
-        let f : own t c ρ ≡ own t c σ ++ (k ∷ own t c (s .0)) = ap (own t c) (s .1) ∙ keep-append p σ (k ∷ s .0) ∙ rw (true-is c (threadOf t k) refl) in
+        let f : own t c ρ ≡ own t c σ ++ (k ∷ own t c (s .0)) = ap (own t c) (s .1) ∙ keep-append p σ (k ∷ s .0) ∙ rw (true-just c (threadOf t k) refl) in
         let d : own t c ρ ++ b .0 ≡ own t c σ ++ (k ∷ τ) = ap (λ (l : List ℕ). l ++ b .0) f ∙ append-assoc (own t c σ) (k ∷ own t c (s .0)) (b .0) in
         let e : reverse τ ++ (k ∷ reverse (own t c σ)) ≡ own t c (upTo (length t)) =
         sym (reverse-split (own t c σ) k τ) ∙ ap reverse (sym d ∙ sym (b .1)) ∙ sym (keep-reverse p (numbers t)) ∙ ap (own t c) (reverse-reverse (upTo (length t))) in

@@ -9,11 +9,11 @@ use mathlib.Core.List.{List, _∷_, reverse}
 use lib.Dec.{eqb}
 use borrow.Author.Tests.{eqb-true, eqb-false, eq-eqb, ne-eqb}
 use Rattle.model.specs.Trace.{Trace, Valid, acquire, release, threadOf, kindOf, objectOf, does}
-use Rattle.model.specs.Lists.{before, own, is}
+use Rattle.model.specs.Lists.{before, own, just}
 use Rattle.model.specs.Good.{depth, holder, Free, Held, WellFormed}
 use Rattle.model.specs.Reordering.{Next, Correct}
 use Rattle.model.specs.Sections.{ownDepth, isOutermost, isLast, OwnDepths}
-use Rattle.model.proofs.Tests.{by-cases, both, clash, true-both, true-does, false-does, is-true, true-is}
+use Rattle.model.proofs.Tests.{by-cases, both, clash, true-both, true-does, false-does, just-true, true-just}
 use Rattle.model.proofs.Histories.{Legal, to-legal}
 use Rattle.model.proofs.Locks.{Locked, sharing, nobody, lock-only, locked, locked-before, held-next}
 
@@ -31,16 +31,16 @@ module _ (t : Trace) (k : ℕ) where
 -- ---- depths
 
 -- how deep one thread holds a lock, by who holds it and how deep
-sharing-own : (c n d : ℕ) → sharing (is c) n d ≡ cond (eqb n (suc c)) d 0
+sharing-own : (c n d : ℕ) → sharing (just c) n d ≡ cond (eqb n (suc c)) d 0
 sharing-own c zero d = rw (ne-eqb 0 (suc c) (omega arith))
 sharing-own c (suc e) d =
-    by-cases (is c e)
-    (λ p. rw (p, eq-eqb (suc e) (suc c) (ap suc (is-true c e p))))
-    (λ p. rw (p, ne-eqb (suc e) (suc c) (λ z. clash (true-is c e (suc-inj z)) p)))
+    by-cases (just c e)
+    (λ p. rw (p, eq-eqb (suc e) (suc c) (ap suc (just-true c e p))))
+    (λ p. rw (p, ne-eqb (suc e) (suc c) (λ z. clash (true-just c e (suc-inj z)) p)))
 
 module _ (t : Trace) (h : List ℕ) (l : Locked t h) where
   own-depth : (c x : ℕ) → depth t x (own t c h) ≡ cond (eqb (holder t x h) (suc c)) (depth t x h) 0
-  own-depth c x = lock-only t (is c) x h l .1 ∙ sharing-own c (holder t x h) (depth t x h)
+  own-depth c x = lock-only t (just c) x h l .1 ∙ sharing-own c (holder t x h) (depth t x h)
 
   module _ (k : ℕ) (next : own t (threadOf t k) h ≡ own t (threadOf t k) (before k)) where
     abbrev c : ℕ

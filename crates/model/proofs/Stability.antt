@@ -7,7 +7,7 @@ use mathlib.Core.Logic.{inl, inr, ⊎-elim, _↔_}
 use mathlib.Core.List.{List, [], _∷_, reverse, reverse-reverse, List·Memᴰ·head, List·Memᴰ·tail}
 use lib.ListN.{length}
 use Rattle.model.specs.Trace.{Trace, Valid, threadOf}
-use Rattle.model.specs.Lists.{_∈_, TwoThreads, but, pair}
+use Rattle.model.specs.Lists.{_∈_, TwoThreads, allBut, pair}
 use Rattle.model.specs.Reordering.{BringsAll}
 use Rattle.model.specs.Cone.{InCone, Brings, Earlier, Inside, AllInside, root, brought, earlier, observes, closes}
 use Rattle.model.specs.Race.{Apart, Candidate, Reported, Preferred, Shown, Witness}
@@ -72,7 +72,7 @@ module _ (u v : Trace) (n : ℕ) (R : List ℕ) (p : SameStart u v n R) (q : Sam
         correct = rw (reverse-reverse ρ) at (of-legal v (reverse ρ)
             (legal-agree u v n (p .agree) (reverse ρ) (λ k x. w k x .1) (λ k x. p .valid k (w k x .0) (w k x .1)) (to-legal u ρ (c .correct))));
         members = λ k. ((λ x. cone-agree u v n R p (c .members k .0 x) .2), (λ x. c .members k .1 (back k x)));
-        order = rw (only-agree u v n (p .agree) (but m) ρ (within u v n R p m ρ c)) at (c .order);
+        order = rw (only-agree u v n (p .agree) (allBut m) ρ (within u v n R p m ρ c)) at (c .order);
       }
 
 module _ (u v : Trace) (n : ℕ) (R : List ℕ) (p : SameStart u v n R) (q : SameStart v u n R) where

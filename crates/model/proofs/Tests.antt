@@ -9,7 +9,7 @@ use lib.ListN.{length, List·getD-eq-default}
 use lib.Dec.{eqb, ltb}
 use borrow.Author.Tests.{eqb-true, eq-eqb, ne-eqb, ltb-true, ltb-false}
 use Rattle.model.specs.Trace.{Trace, Event, Valid, noEvent, kindOf, objectOf, does}
-use Rattle.model.specs.Lists.{is, but}
+use Rattle.model.specs.Lists.{just, allBut}
 
 pub by-cases {ℓ} : {G : Type ℓ} (b : Bool) → (b ≡ true → G) → (b ≡ false → G) → G
 by-cases true f g = f refl
@@ -48,32 +48,32 @@ test-false f e p = clash (f p) e
 
 -- ---- threads
 
-pub is-true : (c d : ℕ) → is c d ≡ true → d ≡ c
-unfolding is
-is-true c d e = eqb-true d c e
+pub just-true : (c d : ℕ) → just c d ≡ true → d ≡ c
+unfolding just
+just-true c d e = eqb-true d c e
 
-pub true-is : (c d : ℕ) → d ≡ c → is c d ≡ true
-unfolding is
-true-is c d e = eq-eqb d c e
+pub true-just : (c d : ℕ) → d ≡ c → just c d ≡ true
+unfolding just
+true-just c d e = eq-eqb d c e
 
-pub false-is : (c d : ℕ) → d ≢ c → is c d ≡ false
-unfolding is
-false-is c d ne = ne-eqb d c ne
+pub false-just : (c d : ℕ) → d ≢ c → just c d ≡ false
+unfolding just
+false-just c d ne = ne-eqb d c ne
 
-pub is-false : (c d : ℕ) → is c d ≡ false → d ≢ c
-is-false c d e z = clash (true-is c d z) e
+pub just-false : (c d : ℕ) → just c d ≡ false → d ≢ c
+just-false c d e z = clash (true-just c d z) e
 
-pub but-true : (m d : ℕ) → but m d ≡ true → d ≢ m
-unfolding but
-but-true m d e z = let q = true-is m d z in false≢true (rw q at e)
+pub allBut-true : (m d : ℕ) → allBut m d ≡ true → d ≢ m
+unfolding allBut
+allBut-true m d e z = let q = true-just m d z in false≢true (rw q at e)
 
-pub true-but : (m d : ℕ) → d ≢ m → but m d ≡ true
-unfolding but
-true-but m d ne = rw (false-is m d ne)
+pub true-allBut : (m d : ℕ) → d ≢ m → allBut m d ≡ true
+unfolding allBut
+true-allBut m d ne = rw (false-just m d ne)
 
-pub false-but : (m d : ℕ) → d ≡ m → but m d ≡ false
-unfolding but
-false-but m d e = rw (true-is m d e)
+pub false-allBut : (m d : ℕ) → d ≡ m → allBut m d ≡ false
+unfolding allBut
+false-allBut m d e = rw (true-just m d e)
 
 -- ---- what an event does
 

@@ -10,14 +10,14 @@ use lib.ListN.{length}
 use lib.Dec.{eqb}
 use borrow.Author.Tests.{eqb-true, eqb-false, eq-eqb}
 use Rattle.model.specs.Trace.{Trace, Valid, threadOf}
-use Rattle.model.specs.Lists.{_∈_, TwoThreads, OnlyBeside, anyIn, only, own, is, but, pair}
+use Rattle.model.specs.Lists.{_∈_, TwoThreads, OnlyBeside, anyIn, only, own, just, allBut, pair}
 use Rattle.model.specs.Observed.{observed}
 use Rattle.model.specs.Good.{Good}
 use Rattle.model.specs.Reordering.{Enabled, Correct}
 use Rattle.model.specs.Cone.{InCone, Brings, Earlier, AllInside, root, brought, earlier, observes, closes}
 use Rattle.model.specs.Race.{Apart, Candidate, Increasing, Reported, ReportedWith}
 use Rattle.model.specs.Extension.{Extension, TogetherInExtension, PredictableInExtension}
-use Rattle.model.proofs.Tests.{by-cases, true-is, but-true}
+use Rattle.model.proofs.Tests.{by-cases, true-just, allBut-true}
 use Rattle.model.proofs.Lists.{any-mem, mem-any, mem-only, only-mem, keep-keep, mem-reverse, reverse-mem, increasing-keep}
 use Rattle.model.proofs.Histories.{Legal, to-legal, of-legal, legal-valid, own-increasing, enabled-mem, mem-enabled, observed-range, legal-observed}
 use Rattle.model.proofs.Locks.{locked, legal-only}
@@ -48,12 +48,12 @@ near-earlier t R j k e x =
     (x .0, x .1, record { first = e .first; less = let y = e .less in let z = p .less in omega arith; thread = e .thread ∙ p .thread })
 
 -- where all events outside the moved thread are by one thread, their order asks nothing
-order-kept : (t : Trace) (m d : ℕ) → OnlyBeside t m d → (ρ : List ℕ) → Correct t ρ → Increasing (only t (but m) ρ)
+order-kept : (t : Trace) (m d : ℕ) → OnlyBeside t m d → (ρ : List ℕ) → Correct t ρ → Increasing (only t (allBut m) ρ)
 order-kept t m d beside ρ c =
     let v : (k : ℕ) → k ∈ ρ → Valid t k = λ k n. legal-valid t (reverse ρ) (to-legal t ρ c) k (reverse-mem n) in
-    let e : only t (but m) (own t d ρ) ≡ only t (but m) ρ =
-    keep-keep (λ k. but m (threadOf t k)) (λ k. is d (threadOf t k)) ρ (λ k n p. true-is d (threadOf t k) (beside k (v k n) (but-true m (threadOf t k) p))) in
-    rw e at (increasing-keep (λ k. but m (threadOf t k)) (own t d ρ) (own-increasing t d ρ c))
+    let e : only t (allBut m) (own t d ρ) ≡ only t (allBut m) ρ =
+    keep-keep (λ k. allBut m (threadOf t k)) (λ k. just d (threadOf t k)) ρ (λ k n p. true-just d (threadOf t k) (beside k (v k n) (allBut-true m (threadOf t k) p))) in
+    rw e at (increasing-keep (λ k. allBut m (threadOf t k)) (own t d ρ) (own-increasing t d ρ c))
 
 -- Let a history of an extension t′ have all roots enabled. What it has of the roots' threads is a candidate.
 module _ (t : Trace) (R : List ℕ) (c : Apart t R) (inside : AllInside t R) (t′ : Trace) (long : Extension t t′)

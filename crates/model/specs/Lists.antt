@@ -27,14 +27,15 @@ before (suc k) = upTo k
 abbrev pub numbers : Trace → List ℕ
 numbers t = reverse (upTo (length t))
 
--- the members of a list that pass a test
-abbrev pub put : Bool → ℕ → List ℕ → List ℕ
-put true k l = k ∷ l
-put false k l = l
+-- a list with k in front of it where a test says so
+abbrev pub consIf : Bool → ℕ → List ℕ → List ℕ
+consIf true k l = k ∷ l
+consIf false k l = l
 
+-- the members of a list that pass a test
 abbrev pub keep : (ℕ → Bool) → List ℕ → List ℕ
 keep p [] = []
-keep p (k ∷ l) = put (p k) k (keep p l)
+keep p (k ∷ l) = consIf (p k) k (keep p l)
 
 -- the first of them; 0 where there is none
 abbrev pub nearest : (ℕ → Bool) → List ℕ → ℕ
@@ -64,23 +65,25 @@ inFront ρ list = ρ ++ drop (length ρ) list
 
 -- ---- threads
 
--- the events of a list by the threads of a set, by thread c, and by every thread but m
+-- the events of a list by the threads of a set
 abbrev pub only : Trace → (ℕ → Bool) → List ℕ → List ℕ
 only t s l = keep (λ k. s (threadOf t k)) l
 
-unfoldable pub is : ℕ → ℕ → Bool
-is c d = eqb d c
+-- the set of thread c alone, and that of all threads but m
+unfoldable pub just : ℕ → ℕ → Bool
+just c d = eqb d c
 
-unfoldable pub but : ℕ → ℕ → Bool
-but m d = not (is m d)
+unfoldable pub allBut : ℕ → ℕ → Bool
+allBut m d = not (just m d)
 
+-- the events of a list by thread c
 abbrev pub own : Trace → ℕ → List ℕ → List ℕ
-own t c l = only t (is c) l
+own t c l = only t (just c) l
 
 -- the different threads that have an event; the paper's number of threads is how many these are
 unfoldable pub threads : Trace → List ℕ
 threads [] = []
-threads (e ∷ t) = put (not (listed (e .thread) (threads t))) (e .thread) (threads t)
+threads (e ∷ t) = consIf (not (listed (e .thread) (threads t))) (e .thread) (threads t)
 
 -- no number stands twice
 abbrev pub Distinct : List ℕ → Type 0

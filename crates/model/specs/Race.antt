@@ -4,7 +4,7 @@ use mathlib.Core.Path.{_≡_}
 use mathlib.Core.Logic.{_≢_, _⊎_, _↔_}
 use mathlib.Core.List.{List, [], _∷_, map}
 use Rattle.model.specs.Trace.{Trace, Valid, read, write, threadOf, kindOf, objectOf}
-use Rattle.model.specs.Lists.{_∈_, Distinct, Ordered, only, but, pair}
+use Rattle.model.specs.Lists.{_∈_, Distinct, Ordered, only, allBut, pair}
 use Rattle.model.specs.Reordering.{Correct}
 use Rattle.model.specs.Cone.{InCone}
 
@@ -40,7 +40,7 @@ pub record Candidate (t : Trace) (R : List ℕ) (m : ℕ) (ρ : List ℕ) : Type
   pub correct : Correct t ρ
   pub members : (k : ℕ) → (k ∈ ρ) ↔ InCone t R k
   -- all events outside the moved thread keep the trace's order among themselves
-  pub order : Increasing (only t (but m) ρ)
+  pub order : Increasing (only t (allBut m) ρ)
 
 -- at the first place where the two lists differ, the first list's event is not of thread m and the second's is
 abbrev pub Preferred : Trace → ℕ → List ℕ → List ℕ → Type 0

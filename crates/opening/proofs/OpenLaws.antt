@@ -10,7 +10,7 @@ use Rattle.model.specs.Trace.{Trace}
 use Rattle.model.specs.Good.{Good}
 use Rattle.limits.specs.declared.Refusal.{Refusal}
 use Rattle.limits.specs.declared.Recording.{Recording}
-use Rattle.format.specs.Bytes.{trace as recorded}
+use Rattle.format.specs.Bytes.{traceIn}
 use Rattle.format.specs.Layout.{fileOf, partOf}
 use Rattle.format.proofs.PartLaws.{part-trace}
 use Rattle.format.specs.declared.File.{File}
@@ -27,7 +27,7 @@ module _ (s : List ℕ) (f : File) (is : f ≡ fileOf s (refusalOf s)) where
   pub open-refused : (r : Refusal) → f ≡ FileRefused r → (area : List ℕ) → Opens (refusalOf s) (eventsOf s) area area (Refused r)
   open-refused r e area = opens-refused (judged-refused s f is r e) refl
 
-  pub open-table : (t : Recording) → f ≡ FileGood t → (ev : List ℕ) → ev ≡ partOf s → (area : List ℕ) {area′ : List ℕ} {n : ℕ} → Built (recorded ev) n area′
+  pub open-table : (t : Recording) → f ≡ FileGood t → (ev : List ℕ) → ev ≡ partOf s → (area : List ℕ) {area′ : List ℕ} {n : ℕ} → Built (traceIn ev) n area′
       → Opens (refusalOf s) (eventsOf s) area area′ (Words n)
   open-table t e ev part area b = opens-table (judged-clean s f is t e) (rw (part-trace s ev part) at b)
 

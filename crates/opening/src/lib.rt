@@ -10,7 +10,7 @@ ghost use lib.ListN.{length};
 ghost use Rattle.model.specs.Trace.{Valid};
 ghost use Rattle.model.specs.Good.{Good};
 ghost use Rattle.model.specs.Sections.{isOutermost, isLast};
-ghost use Rattle.format.specs.Bytes.{trace as recorded};
+ghost use Rattle.format.specs.Bytes.{traceIn};
 ghost use Rattle.judging.specs.Judged.{eventsOf, refusalOf};
 ghost use Rattle.table.specs.Table.{trace, column, room};
 ghost use Rattle.opening.specs.Filling.{Columns, Turn, Stepped, Filled, Built};
@@ -25,8 +25,8 @@ pub enum Opened {
 
 // Word c of event k, where it is the event's own: its thread and its kind, a byte each, or its object.
 fn own_word(ev: &[u8], k: usize, c: usize) -> u16
-    requires { ⌜ Good (recorded (now ev)) × (Valid (recorded (now ev)) k × (c < 2)) ⌝ }
-    ensures { λ r. ⌜ r ≡ column c (recorded (now (ev .entry))) k ⌝ }
+    requires { ⌜ Good (traceIn (now ev)) × (Valid (traceIn (now ev)) k × (c < 2)) ⌝ }
+    ensures { λ r. ⌜ r ≡ column c (traceIn (now (ev .entry))) k ⌝ }
 {
     if c == table::OWN {
         return format::thread_at(ev, k) as u16 + 256 * (format::kind_at(ev, k) as u16);
@@ -36,8 +36,8 @@ fn own_word(ev: &[u8], k: usize, c: usize) -> u16
 
 // Column c, where it is the events' own.
 fn add_own(ev: &[u8], c: usize, table: &mut [u16])
-    requires { ⌜ Columns (recorded (now ev)) c (now table) × (c < 2) ⌝ }
-    ensures { λ _. ⌜ Columns (recorded (now (ev .entry))) (suc c) (now (table .exit)) ⌝ }
+    requires { ⌜ Columns (traceIn (now ev)) c (now table) × (c < 2) ⌝ }
+    ensures { λ _. ⌜ Columns (traceIn (now (ev .entry))) (suc c) (now (table .exit)) ⌝ }
 {
     let n = format::count(ev);
     let mut k = 1;
@@ -192,8 +192,8 @@ fn add_released(table: &mut [u16])
 
 // All columns, from the first on.
 fn fill(ev: &[u8], table: &mut [u16])
-    requires { ⌜ Columns (recorded (now ev)) 0 (now table) ⌝ }
-    ensures { λ _. ⌜ Filled (recorded (now (ev .entry))) (now (table .exit)) ⌝ }
+    requires { ⌜ Columns (traceIn (now ev)) 0 (now table) ⌝ }
+    ensures { λ _. ⌜ Filled (traceIn (now (ev .entry))) (now (table .exit)) ⌝ }
 {
     add_own(ev, table::OWN, table);
     add_own(ev, table::OBJECT, table);
@@ -205,8 +205,8 @@ fn fill(ev: &[u8], table: &mut [u16])
 
 // The table of a good trace, in the front of the lent area. Gives its length.
 fn build(ev: &[u8], area: &mut [u16]) -> usize
-    requires { ⌜ Good (recorded (now ev)) × (room ≤ length (now area)) ⌝ }
-    ensures { λ r. ⌜ Built (recorded (now (ev .entry))) r (now (area .exit)) ⌝ }
+    requires { ⌜ Good (traceIn (now ev)) × (room ≤ length (now area)) ⌝ }
+    ensures { λ r. ⌜ Built (traceIn (now (ev .entry))) r (now (area .exit)) ⌝ }
 {
     let n = table::WORDS * format::count(ev);
     fill(ev, &mut area[..n]);

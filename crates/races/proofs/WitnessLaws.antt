@@ -8,7 +8,7 @@ use mathlib.Core.List.{List, [], _∷_}
 use lib.ListN.{length, getD, take, length-reverse}
 use lib.Seq.{length-take-le}
 use Rattle.model.specs.Trace.{Trace, Valid, threadOf}
-use Rattle.model.specs.Lists.{upTo, keep, only, is, but, listed, anyIn, pair}
+use Rattle.model.specs.Lists.{upTo, keep, only, just, allBut, listed, anyIn, pair}
 use Rattle.model.specs.Good.{maxEvents}
 use Rattle.decision.specs.Rounds.{cone}
 use Rattle.decision.specs.Grid.{side, path}
@@ -35,11 +35,11 @@ use Rattle.races.specs.declared.Witnessed.the-variants.{Absent, Length}
 
 module _ (t : Trace) (m : ℕ) where
   sides-few : (l : List ℕ) → length (only t (side m true) l) + length (only t (side m false) l) ≡ length l
-  unfolding but
+  unfolding allBut
   sides-few [] = refl
   sides-few (k ∷ l) =
       let h = sides-few l in
-      by-cases (is m (threadOf t k)) (λ e. rw e (omega arith)) (λ e. rw e (omega arith))
+      by-cases (just m (threadOf t k)) (λ e. rw e (omega arith)) (λ e. rw e (omega arith))
 
   module _ (flags : List ℕ) where
     pub flagged-few : length (flaggedOf t m true flags (length t)) + length (flaggedOf t m false flags (length t)) ≤ length t

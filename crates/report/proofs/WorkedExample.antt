@@ -3,7 +3,7 @@ use Prim.Native.Nat.{ℕ}
 use mathlib.Core.Path.{_≡_, refl}
 use mathlib.Core.List.{List, [], _∷_, _++_}
 use Rattle.model.specs.Trace.{does}
-use Rattle.model.specs.Lists.{listed, is, but, threads}
+use Rattle.model.specs.Lists.{listed, just, allBut, threads}
 use Rattle.model.specs.Observed.{observed}
 use Rattle.model.specs.Cone.{givesBack, matching}
 use Rattle.decision.specs.Check.{isValid, isFree}
@@ -28,7 +28,7 @@ qBytes =
 
 -- "events 8 threads 2", "race 1 8 witness 5 6 7" and "races 1"
 pub report-of-q : report qBytes ≡ eventsLine 8 2 ++ (raceLine 1 8 (5 ∷ 6 ∷ 7 ∷ []) ++ racesLine 1)
-unfolding does listed is but threads observed givesBack matching isValid isFree eventTests eventRefusal refusalIn
+unfolding does listed just allBut threads observed givesBack matching isValid isFree eventTests eventRefusal refusalIn
     isBrought rounds isEarlier isRooted isObserved isExempt isClosing brings cone sawOther sawNone readStep writeStep lockStep mayStep stepAt path
     shownFor isAccess isConflicting conflictingPairs races
     eventsFrom traceOf distance count start preamble isReadable eventPart events isMarked isPointed layoutRefusal fileRefusal

@@ -9,7 +9,7 @@ use lib.ListN.{getD, drop}
 use lib.Dec.{eqb}
 use borrow.Author.Tests.{eq-eqb, not-true, not-false, ne-eqb, lt-ltb}
 use Rattle.model.specs.Trace.{Trace, Valid, read, write, acquire, release, threadOf, kindOf, objectOf, does}
-use Rattle.model.specs.Lists.{listed, is, but}
+use Rattle.model.specs.Lists.{listed, just, allBut}
 use Rattle.model.specs.Observed.{lastWrite, observed}
 use Rattle.model.specs.Sections.{isLast}
 use Rattle.decision.specs.Check.{isSeen}
@@ -46,11 +46,11 @@ module _ {t : Trace} {k : ℕ} (v : Valid t k) where
 
       module _ (m d : ℕ) (ed : d ≡ threadOf t o) where
         pub saw-moved : (b : Bool) → b ≡ true → not (eqb d m) ≡ sawOther t m b k
-        unfolding sawOther is but
+        unfolding sawOther just allBut
         saw-moved b z = rw (z, ← is-observed, ne-eqb o 0 ne, ed)
 
         pub saw-others : (b : Bool) → b ≡ false → eqb d m ≡ sawOther t m b k
-        unfolding sawOther is
+        unfolding sawOther just
         saw-others b z = rw (z, ← is-observed, ne-eqb o 0 ne, ed)
 
 -- ---- a read that is left

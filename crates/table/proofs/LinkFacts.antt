@@ -9,11 +9,11 @@ use lib.ListN.{length}
 use lib.Dec.{eqb}
 use borrow.Author.Tests.{eqb-true, eqb-false, eq-eqb, ne-eqb, ltb-true}
 use Rattle.model.specs.Trace.{Trace, read, write, acquire, threadOf, kindOf, objectOf, does}
-use Rattle.model.specs.Lists.{upTo, before, numbers, nearest, is}
+use Rattle.model.specs.Lists.{upTo, before, numbers, nearest, just}
 use Rattle.model.specs.Observed.{observed}
 use Rattle.model.specs.Sections.{isOutermost, isLast}
 use Rattle.model.specs.Cone.{Earlier, givesBack, matching}
-use Rattle.model.proofs.Tests.{by-cases, clash, both, is-true, true-is}
+use Rattle.model.proofs.Tests.{by-cases, clash, both, just-true, true-just}
 use Rattle.model.proofs.Lists.{nearest-mem, mem-before}
 use Rattle.model.proofs.SectionsExact.{outermost-acquires, last-releases}
 use Rattle.model.proofs.MatchingExact.{matching-valid}
@@ -44,14 +44,14 @@ module _ (t : Trace) where
 
   pub previous-less : (k : ℕ) → 1 ≤ k → previous t k < k
   unfolding previous
-  previous-less k h = nearest-less (λ j. is (threadOf t k) (threadOf t j)) k h
+  previous-less k h = nearest-less (λ j. just (threadOf t k) (threadOf t j)) k h
 
   pub previous-earlier : (k : ℕ) → previous t k ≢ 0 → Earlier t (previous t k) k
   unfolding previous
   previous-earlier k ne =
-      let p : ℕ → Bool = λ j. is (threadOf t k) (threadOf t j) in
+      let p : ℕ → Bool = λ j. just (threadOf t k) (threadOf t j) in
       let x = mem-before k (previous t k) (nearest-mem p (before k) ne) in
-      record { first = x .0; less = x .1; thread = is-true (threadOf t k) _ (nearest-true p (before k) ne) }
+      record { first = x .0; less = x .1; thread = just-true (threadOf t k) _ (nearest-true p (before k) ne) }
 
   -- no earlier event of the thread stands behind it
   pub previous-last : (j k : ℕ) → Earlier t j k → j ≤ previous t k
@@ -59,7 +59,7 @@ module _ (t : Trace) where
   previous-last j zero e = absurd (let z = e .less in omega arith)
   previous-last j (suc k) e =
       let z = e .less in
-      nearest-last (λ i. is (threadOf t (suc k)) (threadOf t i)) k j (e .first) (omega arith) (true-is (threadOf t (suc k)) (threadOf t j) (e .thread))
+      nearest-last (λ i. just (threadOf t (suc k)) (threadOf t i)) k j (e .first) (omega arith) (true-just (threadOf t (suc k)) (threadOf t j) (e .thread))
 
   -- ---- the observed write of a read
 

@@ -10,7 +10,7 @@ use lib.Count.{ones}
 use lib.Dec.{eqb}
 use borrow.Author.Tests.{eqb-true, eqb-false}
 use Rattle.model.specs.Trace.{Trace, noEvent, at, threadOf, Valid}
-use Rattle.model.specs.Lists.{put, listed, threads}
+use Rattle.model.specs.Lists.{consIf, listed, threads}
 use Rattle.model.specs.Good.{Good}
 use Rattle.model.proofs.Tests.{by-cases}
 use Rattle.bits.specs.Mask.{holds, including}
@@ -26,7 +26,7 @@ unfolding listed ones
 same-none = record { has = none-held; number = refl }
 
 -- one number more, unless it is there
-same-more : (mask c : ℕ) (l : List ℕ) → Same mask l → Same (including mask c) (put (not (listed c l)) c l)
+same-more : (mask c : ℕ) (l : List ℕ) → Same mask l → Same (including mask c) (consIf (not (listed c l)) c l)
 unfolding listed
 same-more mask c l p =
     by-cases (listed c l)

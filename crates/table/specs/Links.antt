@@ -4,14 +4,14 @@ use mathlib.Core.Bool.{cond, _||_}
 use mathlib.Core.List.{List}
 use lib.Dec.{eqb}
 use Rattle.model.specs.Trace.{Trace, read, acquire, release, threadOf, kindOf}
-use Rattle.model.specs.Lists.{before, nearest, is}
+use Rattle.model.specs.Lists.{before, nearest, just}
 use Rattle.model.specs.Observed.{observed}
 use Rattle.model.specs.Sections.{ownDepth, isLast}
 use Rattle.model.specs.Cone.{matching}
 
 -- the last event of thread c in a history; 0 where there is none
 abbrev pub lastOf : Trace → List ℕ → ℕ → ℕ
-lastOf t h c = nearest (λ j. is c (threadOf t j)) h
+lastOf t h c = nearest (λ j. just c (threadOf t j)) h
 
 -- the event before k in its thread
 unfoldable pub previous : Trace → ℕ → ℕ

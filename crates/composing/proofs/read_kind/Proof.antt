@@ -1,11 +1,11 @@
 use Rattle.composing.proofs.LineLaws.{kind-is, kind-other}
 use borrow.Author.Needs.{needs}
-use Rattle.composing.specs.Lines.{word}
+use Rattle.composing.specs.Lines.{kindWord}
 use Rattle.composing.proofs.read_kind.Statement.{statement}
 use Rattle.composing.proofs.read_kind.Tie as tie
 
 pub read-kind-spec : {M : Type 1} → statement M
-unfolding word
+unfolding kindWord
 read-kind-spec =
     tie.close
     (tie.spec

@@ -1,14 +1,14 @@
 use mathlib.Core.Logic.{⊎-elim}
 use Prim.Native.Nat.{_+_, _-_}
 use borrow.Author.Needs.{needs}
-use Rattle.format.specs.Bytes.{trace}
+use Rattle.format.specs.Bytes.{traceIn}
 use Rattle.judging.proofs.WalkLaws.{Judging, judging-start, judging-valid, judging-ready, judging-pass, judging-object, judging-offset, judging-hold}
 use Rattle.judging.proofs.FileLaws.{few-events, events-refused, events-good}
 use Rattle.judging.proofs.judge_events.Statement.{statement}
 use Rattle.judging.proofs.judge_events.Tie as tie
 
 abbrev Inv-loop : tie.InvT-loop
-Inv-loop file t ev n locks₀ k₀ locks k = Judging (trace ev) n k locks
+Inv-loop file t ev n locks₀ k₀ locks k = Judging (traceIn ev) n k locks
 
 abbrev μ-loop : tie.MeasureT-loop
 μ-loop file t ev n locks₀ k₀ locks k = n + 1 - k

@@ -1,12 +1,12 @@
 use Prim.Native.Nat.{_+_, _-_}
-use Rattle.format.specs.Bytes.{trace}
+use Rattle.format.specs.Bytes.{traceIn}
 use borrow.Author.Needs.{needs}
 use Rattle.opening.proofs.PassLaws.{Forward, forward-start, forward-more, forward-end}
 use Rattle.opening.proofs.add_own.Statement.{statement}
 use Rattle.opening.proofs.add_own.Tie as tie
 
 abbrev Inv-loop : tie.InvT-loop
-Inv-loop ev c table₀ n k₀ table k = Forward (trace ev) c n k table₀ table
+Inv-loop ev c table₀ n k₀ table k = Forward (traceIn ev) c n k table₀ table
 
 abbrev μ-loop : tie.MeasureT-loop
 μ-loop ev c table₀ n k₀ table k = n + 1 - k
