@@ -7,6 +7,7 @@ pub mod GridSteps
 pub mod Merges
 pub mod SearchExact
 -- 7
+pub mod OrderExact
 pub mod ListingExact
 -- 8, the refusals
 pub mod RefusalsExact

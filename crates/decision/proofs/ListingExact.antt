@@ -1,9 +1,8 @@
 -- The verdict on a pair, the listing, and the first race after two given numbers, as computed, are what they should be.
 use Prim.Native.Nat.{ℕ, _<_}
-use native.Mathlib.Omega.{arith}
-use mathlib.Core.Path.{_≡_, refl, sym, _∙_, ap, subst}
-use mathlib.Core.Logic.{_⊎_, inl, inr, ⊎-elim, _↔_}
-use mathlib.Core.Bool.{true, _&&_, not}
+use mathlib.Core.Path.{_≡_, refl, sym, _∙_, ap}
+use mathlib.Core.Logic.{inl, inr, ⊎-elim, _↔_}
+use mathlib.Core.Bool.{true, not}
 use mathlib.Core.Option.{Option, none, some}
 use mathlib.Core.List.{List, [], _∷_, _++_, List·Memᴰ, List·Memᴰ·head, List·Memᴰ·tail, List·Memᴰ·not-nil, List·Memᴰ·append-cases, List·Memᴰ·eq-of-singleton, Memᴰ·append-left, Memᴰ·append-right}
 use lib.Dec.{eqb, ltb}
@@ -13,11 +12,12 @@ use Rattle.model.specs.Lists.{numbers, pair, Ordered}
 use Rattle.model.specs.Good.{WellFormed}
 use Rattle.model.specs.Race.{Access, Conflicting, Reported, Witness}
 use Rattle.decision.specs.Check.{isValid}
-use Rattle.model.specs.Listing.{Race, RaceOf, After, Sorted, Listing, FirstAfter}
-use Rattle.decision.specs.Decision.{witness, isAccess, isConflicting, raceWith, each, pairOn, conflictingPairs, races, isAfter, firstAfter, nextRace}
-use Rattle.model.proofs.Tests.{by-cases, in-cons, clash, both, true-both, either-true, true-either}
+use Rattle.model.specs.Listing.{Race, RaceOf, pairOf, After, Sorted, Listing, FirstAfter}
+use Rattle.decision.specs.Decision.{witness, isAccess, isConflicting, raceWith, each, pairOn, conflictingPairs, races, nextRace}
+use Rattle.model.proofs.Tests.{by-cases, both, either-true, true-either}
 use Rattle.model.proofs.Lists.{numbers-mem, increasing-numbers}
 use Rattle.model.proofs.Threads.{conflicting-apart}
+use Rattle.decision.proofs.OrderExact.{first-exactly, none-exactly}
 use Rattle.decision.proofs.CheckExact.{valid-true, true-valid}
 use Rattle.decision.proofs.SearchExact.{search-exactly, search-none}
 
@@ -111,8 +111,8 @@ module _ {A B : Type 0} (f : A → List B) where
 -- ---- the conflicting pairs
 
 -- by lower event, then by higher
-abbrev Before : ℕ × ℕ → ℕ × ℕ → Type 0
-Before p q = (p .0 < q .0) ⊎ ((p .0 ≡ q .0) × (p .1 < q .1))
+abbrev numbersOf : ℕ × ℕ → List ℕ
+numbersOf p = pair (p .0) (p .1)
 
 module _ (t : Trace) where
   on-pair : (a b : ℕ) (p : ℕ × ℕ) → List·Memᴰ p (pairOn t a b) → (p .0 ≡ a) × (p .1 ≡ b) × Conflicting t a b
@@ -139,17 +139,20 @@ module _ (t : Trace) where
         (rw (conflicting-exactly t (p .0) (p .1) .1 c) (List·Memᴰ·head refl)))),
   )
 
-  pairs-ordered : Ordered Before (conflictingPairs t)
+  pairs-sorted : Sorted numbersOf (conflictingPairs t)
   unfolding conflictingPairs row
-  pairs-ordered =
-      each-ordered row Before (λ j k. j < k)
+  pairs-sorted =
+      each-ordered row In (λ j k. j < k)
       (λ a.
-      each-ordered (λ b. pairOn t a b) Before (λ j k. j < k)
+      each-ordered (λ b. pairOn t a b) In (λ j k. j < k)
       (λ b. by-cases (isConflicting t a b) (λ e. rw e ((λ y m. absurd (List·Memᴰ·not-nil m)), tt)) (λ e. rw e tt))
-      (λ j k x y l m n. let p = on-pair a j x m in let q = on-pair a k y n in inr (p .0 ∙ sym (q .0), rw (p .1, q .1) l))
+      (λ j k x y l m n. let p = on-pair a j x m in let q = on-pair a k y n in inr (p .0 ∙ sym (q .0), inl (rw (p .1, q .1) l)))
       (numbers t) (increasing-numbers t))
       (λ j k x y l m n. let p = mem-row j x m in let q = mem-row k y n in inl (rw (p .0, q .0) l))
       (numbers t) (increasing-numbers t)
+    where
+      In : ℕ × ℕ → ℕ × ℕ → Type 0
+      In p q = After (numbersOf p) (numbersOf q)
 
   -- ---- the listing
 
@@ -166,23 +169,20 @@ module _ (t : Trace) where
           let q = List·Memᴰ·eq-of-singleton m in
           (ap (λ (y : Race). y .lower) q, ap (λ (y : Race). y .higher) q, e ∙ ap some (sym (ap (λ (y : Race). y .witness) q)))
 
-  races-sorted : Sorted (races t)
+  races-sorted : Sorted pairOf (races t)
   unfolding races onPair
   races-sorted =
-      each-ordered onPair (λ x y. After (x .lower) (x .higher) y) Before (λ p. go (p .0) (p .1) (witness t (p .0) (p .1)))
-      (λ j k x y l m n.
-      let p = on-race j x m in
-      let q = on-race k y n in
-      ⊎-elim (λ h. inl (rw (p .0, q .0) h)) (λ h. inr (p .0 ∙ h .0 ∙ sym (q .0), rw (p .1, q .1) (h .1))) l)
-      (conflictingPairs t) pairs-ordered
+      each-ordered onPair (λ x y. After (pairOf x) (pairOf y)) (λ p q. After (numbersOf p) (numbersOf q)) (λ p. go (p .0) (p .1) (witness t (p .0) (p .1)))
+      (λ j k x y l m n. let p = on-race j x m in let q = on-race k y n in rw (p .0, p .1, q .0, q .1) l)
+      (conflictingPairs t) pairs-sorted
     where
-      go : (a b : ℕ) (o : Option (List ℕ)) → Sorted (raceWith a b o)
+      go : (a b : ℕ) (o : Option (List ℕ)) → Sorted pairOf (raceWith a b o)
       go a b none = tt
       go a b (some ρ) = ((λ y m. absurd (List·Memᴰ·not-nil m)), tt)
 
   module _ (w : WellFormed t) where
     -- the listing has exactly the races, in order
-    pub races-listing : Listing t (races t)
+    pub races-listing : Listing pairOf (RaceOf t) (races t)
     unfolding races onPair
     races-listing = record {
       members = λ x. (
@@ -204,83 +204,13 @@ module _ (t : Trace) where
 
 -- ---- the first after (a, b)
 
-pub after-true : (a b : ℕ) (x : Race) → isAfter a b x ≡ true → After a b x
-unfolding isAfter
-after-true a b x e =
-    ⊎-elim (λ p. inl (ltb-true a (x .lower) p))
-    (λ p. let q = both (eqb a (x .lower)) (ltb b (x .higher)) p in inr (eqb-true a (x .lower) (q .0), ltb-true b (x .higher) (q .1)))
-    (either-true (ltb a (x .lower)) (eqb a (x .lower) && ltb b (x .higher)) e)
-
-pub true-after : (a b : ℕ) (x : Race) → After a b x → isAfter a b x ≡ true
-unfolding isAfter
-true-after a b x c =
-    true-either (ltb a (x .lower)) (eqb a (x .lower) && ltb b (x .higher))
-    (⊎-elim (λ p. inl (lt-ltb a (x .lower) p)) (λ p. inr (true-both (eq-eqb a (x .lower) (p .0)) (lt-ltb b (x .higher) (p .1)))) c)
-
-module _ (a b : ℕ) where
-  -- x is the first of a list's races after (a, b)
-  record FirstIn (l : List Race) (x : Race) : Type 0 where
-    member : List·Memᴰ x l
-    later : After a b x
-    least : (y : Race) → List·Memᴰ y l → After a b y → (y ≡ x) ⊎ After (x .lower) (x .higher) y
-
-  first-some : (l : List Race) → Sorted l → (x : Race) → firstAfter a b l ≡ some x → FirstIn l x
-  first-some [] s x e = let z : _≡_ {A = ℕ} 0 1 = cc in absurd (omega arith)
-  first-some (j ∷ l) s x e =
-      by-cases (isAfter a b j)
-      (λ p.
-      let q : j ≡ x = let d : _≡_ {A = Option Race} (some j) (some x) = rw p at e in cc in
-      record {
-        member = List·Memᴰ·head (sym q);
-        later = subst (λ (y : Race). After a b y) q (after-true a b j p);
-        least = λ y m f. in-cons m (λ d. inl (d ∙ q)) (λ n. inr (subst (λ (z : Race). After (z .lower) (z .higher) y) q (s .0 y n)));
-      })
-      (λ p.
-      let ih = first-some l (s .1) x (rw p at e) in
-      record {
-        member = List·Memᴰ·tail (ih .member);
-        later = ih .later;
-        least = λ y m f. in-cons m (λ d. clash (true-after a b j (subst (λ (z : Race). After a b z) d f)) p) (λ n. ih .least y n f);
-      })
-
-  first-none : (l : List Race) → firstAfter a b l ≡ none → (y : Race) → List·Memᴰ y l → ¬ After a b y
-  first-none [] e y m f = List·Memᴰ·not-nil m
-  first-none (j ∷ l) e y m f =
-      by-cases (isAfter a b j)
-      (λ p. let d : _≡_ {A = Option Race} (some j) none = rw p at e in let z : _≡_ {A = ℕ} 0 1 = cc in omega arith)
-      (λ p. in-cons m (λ d. clash (true-after a b j (subst (λ (z : Race). After a b z) d f)) p) (λ n. first-none l (rw p at e) y n f))
-
-not-both-after : (x y : Race) → After (x .lower) (x .higher) y → After (y .lower) (y .higher) x → ⊥
-not-both-after x y f g = ⊎-elim (λ p. ⊎-elim (λ q. omega arith) (λ q. omega arith) g) (λ p. ⊎-elim (λ q. omega arith) (λ q. omega arith) g) f
-
 module _ (t : Trace) (w : WellFormed t) (a b : ℕ) where
-  next-first : (x : Race) → nextRace t a b ≡ some x → FirstAfter t a b x
-  unfolding nextRace
-  next-first x e =
-      let l = races-listing t w in
-      let r = first-some a b (races t) (l .sorted) x e in
-      record { race = l .members x .0 (r .member); later = r .later; least = λ y z f. r .least y (l .members y .1 z) f }
-
-  next-absent : nextRace t a b ≡ none → (x : Race) → RaceOf t x → ¬ After a b x
-  unfolding nextRace
-  next-absent e x r = first-none a b (races t) e x (races-listing t w .members x .1 r)
-
   -- the answer is the first race after (a, b)
-  pub next-exactly : (x : Race) → (nextRace t a b ≡ some x) ↔ FirstAfter t a b x
-  next-exactly x = (next-first x, (λ f. go f (nextRace t a b) refl))
-    where
-      go : FirstAfter t a b x → (o : Option Race) → nextRace t a b ≡ o → nextRace t a b ≡ some x
-      go f none e = absurd (next-absent e x (f .race) (f .later))
-      go f (some y) e =
-          let g = next-first y e in
-          let q : y ≡ x =
-          ⊎-elim (λ d. d) (λ d. ⊎-elim (λ c. sym c) (λ c. absurd (not-both-after x y d c)) (g .least x (f .race) (f .later))) (f .least y (g .race) (g .later)) in
-          e ∙ ap some q
+  pub next-exactly : (x : Race) → (nextRace t a b ≡ some x) ↔ FirstAfter pairOf (RaceOf t) (pair a b) x
+  unfolding nextRace
+  next-exactly x = first-exactly pairOf (pair a b) (races-listing t w) x
 
   -- and none exactly where there is none
-  pub next-none : (nextRace t a b ≡ none) ↔ ((x : Race) → RaceOf t x → ¬ After a b x)
-  next-none = (next-absent, (λ f. go f (nextRace t a b) refl))
-    where
-      go : ((x : Race) → RaceOf t x → ¬ After a b x) → (o : Option Race) → nextRace t a b ≡ o → nextRace t a b ≡ none
-      go f none e = e
-      go f (some y) e = let g = next-first y e in absurd (f y (g .race) (g .later))
+  pub next-none : (nextRace t a b ≡ none) ↔ ((x : Race) → RaceOf t x → ¬ After (pair a b) (pairOf x))
+  unfolding nextRace
+  next-none = none-exactly pairOf (pair a b) (races-listing t w)

@@ -8,9 +8,10 @@ use lib.Dec.{eqb, ltb}
 use Rattle.model.specs.Trace.{Trace, read, write, threadOf, kindOf, objectOf}
 use Rattle.model.specs.Lists.{own, only, allBut, anyIn, listed, numbers, pair}
 use Rattle.decision.specs.Check.{isValid}
-use Rattle.model.specs.Listing.{Race}
+use Rattle.model.specs.Listing.{Race, pairOf}
 use Rattle.decision.specs.Rounds.{cone}
 use Rattle.decision.specs.Grid.{path}
+use Rattle.decision.specs.Order.{firstAfter}
 
 -- the reordering shown for the roots R with thread m as the moved thread, if there is one
 unfoldable pub shownFor : Trace → List ℕ → ℕ → Option (List ℕ)
@@ -54,13 +55,6 @@ conflictingPairs t = each (λ a. each (λ b. pairOn t a b) (numbers t)) (numbers
 unfoldable pub races : Trace → List Race
 races t = each (λ p. raceWith (p .0) (p .1) (witness t (p .0) (p .1))) (conflictingPairs t)
 
-unfoldable pub isAfter : ℕ → ℕ → Race → Bool
-isAfter a b x = ltb a (x .lower) || (eqb a (x .lower) && ltb b (x .higher))
-
-abbrev pub firstAfter : ℕ → ℕ → List Race → Option Race
-firstAfter a b [] = none
-firstAfter a b (x ∷ l) = cond (isAfter a b x) (some x) (firstAfter a b l)
-
 -- question 4: the first race after (a, b)
 unfoldable pub nextRace : Trace → ℕ → ℕ → Option Race
-nextRace t a b = firstAfter a b (races t)
+nextRace t a b = firstAfter pairOf (pair a b) (races t)

@@ -2,5 +2,6 @@ pub mod Check
 pub mod Refusals
 pub mod Rounds
 pub mod Grid
+pub mod Order
 pub mod Decision
 pub mod StaysTrue

@@ -7,7 +7,7 @@ use Rattle.model.specs.Trace.{Trace, Event, read, write, acquire, releas
 use Rattle.model.specs.Lists.{threads}
 use Rattle.model.specs.Good.{Good}
 use Rattle.model.specs.Check.{CheckAnswer}
-use Rattle.model.specs.Listing.{Race, Listing}
+use Rattle.model.specs.Listing.{Race, RaceOf, pairOf, Listing}
 
 -- a list proposed for (a, b) and the check's answer, 0 for yes
 pub record Proposal : Type 0 where
@@ -26,7 +26,7 @@ pub record Example : Type 0 where
 pub record HoldsOf (e : Example) : Type 0 where
   pub good : Good (e .trace)
   pub count : length (threads (e .trace)) ≡ e .threadCount
-  pub listing : Listing (e .trace) (e .races)
+  pub listing : Listing pairOf (RaceOf (e .trace)) (e .races)
   pub answers : (p : Proposal) → List·Memᴰ p (e .proposals) → CheckAnswer (e .trace) (p .lower) (p .higher) (p .list) (p .answer)
 
 -- events by thread c

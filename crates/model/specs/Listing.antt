@@ -1,11 +1,36 @@
--- The races of a trace in question 4's order, and the first of them after two given numbers.
+-- Answers in order, and the races of a trace in question 4's order.
 use Prim.Native.Nat.{ℕ, _<_}
 use mathlib.Core.Path.{_≡_}
 use mathlib.Core.Logic.{_⊎_, _↔_}
-use mathlib.Core.List.{List, List·Memᴰ}
+use mathlib.Core.List.{List, [], _∷_, List·Memᴰ}
 use Rattle.model.specs.Trace.{Trace}
-use Rattle.model.specs.Lists.{Ordered}
+use Rattle.model.specs.Lists.{Ordered, pair}
 use Rattle.model.specs.Race.{Conflicting, Witness}
+
+-- ---- answers with some numbers each, as a race has two events
+
+-- of two lists of as many numbers the second comes after the first: by the first number, then by the second, and so on
+abbrev pub After : List ℕ → List ℕ → Type 0
+After [] y = ⊥
+After (a ∷ x) [] = ⊥
+After (a ∷ x) (b ∷ y) = (a < b) ⊎ ((a ≡ b) × After x y)
+
+-- each answer comes after all those in front of it
+abbrev pub Sorted : {A : Type 0} → (A → List ℕ) → List A → Type 0
+Sorted of l = Ordered (λ x y. After (of x) (of y)) l
+
+-- the list has exactly the answers, in order
+pub record Listing {A : Type 0} (of : A → List ℕ) (Is : A → Type 0) (l : List A) : Type 0 where
+  pub members : (x : A) → List·Memᴰ x l ↔ Is x
+  pub sorted : Sorted of l
+
+-- x is the first answer after the numbers k
+pub record FirstAfter {A : Type 0} (of : A → List ℕ) (Is : A → Type 0) (k : List ℕ) (x : A) : Type 0 where
+  pub answer : Is x
+  pub later : After k (of x)
+  pub least : (y : A) → Is y → After k (of y) → (y ≡ x) ⊎ After (of x) (of y)
+
+-- ---- races
 
 -- a reported pair and the reordering shown for it
 pub record Race : Type 0 where
@@ -13,26 +38,11 @@ pub record Race : Type 0 where
   pub higher : ℕ
   pub witness : List ℕ
 
+-- its two events: races come by the lower, then by the higher
+abbrev pub pairOf : Race → List ℕ
+pairOf x = pair (x .lower) (x .higher)
+
 -- it is a race of the trace
 pub record RaceOf (t : Trace) (x : Race) : Type 0 where
   pub conflicting : Conflicting t (x .lower) (x .higher)
   pub shown : Witness t (x .lower) (x .higher) (x .witness)
-
--- the race comes after the numbers (a, b): by lower event, then by higher
-abbrev pub After : ℕ → ℕ → Race → Type 0
-After a b x = (a < x .lower) ⊎ ((a ≡ x .lower) × (b < x .higher))
-
--- each race comes after all those in front of it
-abbrev pub Sorted : List Race → Type 0
-Sorted l = Ordered (λ x y. After (x .lower) (x .higher) y) l
-
--- the list has exactly the trace's races, in order
-pub record Listing (t : Trace) (l : List Race) : Type 0 where
-  pub members : (x : Race) → List·Memᴰ x l ↔ RaceOf t x
-  pub sorted : Sorted l
-
--- x is the first race after (a, b)
-pub record FirstAfter (t : Trace) (a b : ℕ) (x : Race) : Type 0 where
-  pub race : RaceOf t x
-  pub later : After a b x
-  pub least : (y : Race) → RaceOf t y → After a b y → (y ≡ x) ⊎ After (x .lower) (x .higher) y

@@ -7,11 +7,11 @@ use Rattle.model.specs.Trace.{Trace}
 use Rattle.model.specs.Reordering.{BringsBoth}
 use Rattle.model.specs.Race.{Conflicting, Reported, Witness}
 use Rattle.model.specs.Check.{CheckAnswer}
-use Rattle.model.specs.Listing.{Race, RaceOf, After, FirstAfter}
+use Rattle.model.specs.Listing.{Race, RaceOf, pairOf, After, FirstAfter}
 use Rattle.limits.specs.Limits.{areaBytes}
 use Rattle.limits.specs.Refusals.{Asked}
 use Rattle.judging.specs.Judged.{eventsOf, refusalOf, rowsOfFile}
-use Rattle.model.specs.Lists.{inFront}
+use Rattle.model.specs.Lists.{inFront, pair}
 use Rattle.model.specs.Rows.{Row, row, nothing}
 use Rattle.verdicts.specs.Verdict.{cleared, verdictIn}
 use Rattle.verdicts.specs.Next.{nextIn}
@@ -49,8 +49,8 @@ nextRows area = row 12 nothing (length area < areaBytes) ∷ []
 
 -- what each answer means, with the work area after it
 pub data NextOf (t : Trace) (a b : ℕ) (area : List ℕ) : Next × List ℕ → Type 0 where
-  next-race : {x : Race} → FirstAfter t a b x → NextOf t a b area (RaceOn (x .lower) (x .higher), cleared area)
-  no-race : ((x : Race) → RaceOf t x → ¬ After a b x) → NextOf t a b area (NoRace, cleared area)
+  next-race : {x : Race} → FirstAfter pairOf (RaceOf t) (pair a b) x → NextOf t a b area (RaceOn (x .lower) (x .higher), cleared area)
+  no-race : ((x : Race) → RaceOf t x → ¬ After (pair a b) (pairOf x)) → NextOf t a b area (NoRace, cleared area)
 
 abbrev pub NextAfter : List ℕ → ℕ → ℕ → List ℕ → Next × List ℕ → Type 0
 NextAfter s a b area x = Asked (rowsOfFile s ++ nextRows area) (λ r. (NextRefused r, area)) (NextOf (eventsOf s) a b area) x

@@ -12,9 +12,11 @@ use mir.Syntax.{w16}
 use lib.ListN.{length}
 use borrow.Author.Tests.{not-true, not-false}
 use Rattle.model.specs.Trace.{Trace}
-use Rattle.model.specs.Listing.{Race, RaceOf, After}
+use Rattle.model.specs.Lists.{pair}
+use Rattle.model.specs.Listing.{Race, RaceOf, pairOf, After}
 use Rattle.decision.specs.Decision.{witness, isConflicting, nextRace}
 use Rattle.model.proofs.Tests.{false-test, by-cases}
+use Rattle.decision.proofs.OrderExact.{by-last}
 use Rattle.decision.proofs.ListingExact.{conflicting-exactly, witness-exactly, next-exactly, next-none}
 use Rattle.table.specs.Table.{trace}
 use Rattle.races.specs.Witness.{WitnessRoom, Shows}
@@ -50,17 +52,17 @@ module _ (t : Trace) (w : WellFormed t) where
 
   module _ (a b : ℕ) where
     -- no race that comes after (a, b) stands before the one found
-    least : (y : ℕ) (ρ : List ℕ) → witnessOf t a y ≡ some ρ → NoRaces t a b y → (x : Race) → RaceOf t x → After a b x → (x ≡ record { lower = a; higher = y; witness = ρ }) ⊎ After a y x
-    least y ρ e none-before x r f = ⊎-elim (λ p. inr (inl p)) (λ p. with-lower (p .0) (p .1)) f
+    least : (y : ℕ) (ρ : List ℕ) → witnessOf t a y ≡ some ρ → NoRaces t a b y → (x : Race) → RaceOf t x → After (pair a b) (pairOf x) → (x ≡ record { lower = a; higher = y; witness = ρ }) ⊎ After (pair a y) (pairOf x)
+    least y ρ e none-before x r f = ⊎-elim (λ p. inr (inl p)) (λ p. with-lower (p .0) (by-last (p .1))) f
       where
-        with-lower : a ≡ x .lower → b < x .higher → (x ≡ record { lower = a; higher = y; witness = ρ }) ⊎ After a y x
+        with-lower : a ≡ x .lower → b < x .higher → (x ≡ record { lower = a; higher = y; witness = ρ }) ⊎ After (pair a y) (pairOf x)
         with-lower p q = go (decLt y (x .higher)) (ℕ-discrete (x .higher) y)
           where
             found : witnessOf t a (x .higher) ≡ some (x .witness)
             found = ap (λ (k : ℕ). witnessOf t k (x .higher)) p ∙ race-witness x r
 
-            go : Dec (y < x .higher) → Dec (x .higher ≡ y) → (x ≡ record { lower = a; higher = y; witness = ρ }) ⊎ After a y x
-            go (yes l) d = inr (inr (p, l))
+            go : Dec (y < x .higher) → Dec (x .higher ≡ y) → (x ≡ record { lower = a; higher = y; witness = ρ }) ⊎ After (pair a y) (pairOf x)
+            go (yes l) d = inr (inr (p, inl l))
             go (no l) (yes d) =
                 let s : x .witness ≡ ρ = some-same (sym found ∙ ap (λ (k : ℕ). witnessOf t a k) d ∙ e) in
                 inl (rw (p, ← d, ← s))
@@ -68,29 +70,29 @@ module _ (t : Trace) (w : WellFormed t) where
 
     pub next-found : (x : Race) → FirstWith t a b (some x) → nextRace t a b ≡ some x
     next-found x (with-race y ρ l e none-before) =
-        next-exactly t w a b x .1 (record { race = witnessed-race a y ρ e; later = inr (refl, l); least = least y ρ e none-before })
+        next-exactly t w a b x .1 (record { answer = witnessed-race a y ρ e; later = inr (refl, inl l); least = least y ρ e none-before })
 
     -- where a has no more races, those after (a, b) are those after (a + 1, a + 1)
     module _ (none-left : (y : ℕ) → NoRaces t a b y) where
-      later-lower : (x : Race) → RaceOf t x → After a b x → a < x .lower
+      later-lower : (x : Race) → RaceOf t x → After (pair a b) (pairOf x) → a < x .lower
       later-lower x r f =
           ⊎-elim (λ p. p)
           (λ p.
           let e : witnessOf t a (x .higher) ≡ some (x .witness) = ap (λ (k : ℕ). witnessOf t k (x .higher)) (p .0) ∙ race-witness x r in
-          absurd (none-some (sym (none-left (suc (x .higher)) (x .higher) (p .1) (omega arith)) ∙ e)))
+          absurd (none-some (sym (none-left (suc (x .higher)) (x .higher) (by-last (p .1)) (omega arith)) ∙ e)))
           f
 
-      after-next : (x : Race) → RaceOf t x → After a b x → After (suc a) (suc a) x
+      after-next : (x : Race) → RaceOf t x → After (pair a b) (pairOf x) → After (pair (suc a) (suc a)) (pairOf x)
       after-next x r f =
           let l = later-lower x r f in
           let c = r .conflicting .lower in
           go l c (decLt (suc a) (x .lower))
         where
-          go : a < x .lower → x .lower < x .higher → Dec (suc a < x .lower) → After (suc a) (suc a) x
+          go : a < x .lower → x .lower < x .higher → Dec (suc a < x .lower) → After (pair (suc a) (suc a)) (pairOf x)
           go l c (yes p) = inl p
-          go l c (no p) = inr (omega arith, omega arith)
+          go l c (no p) = inr (omega arith, inl (omega arith))
 
-      before-next : (x : Race) → After (suc a) (suc a) x → After a b x
+      before-next : (x : Race) → After (pair (suc a) (suc a)) (pairOf x) → After (pair a b) (pairOf x)
       before-next x f = inl (⊎-elim (λ p. omega arith) (λ p. let q = p .0 in omega arith) f)
 
       pub next-lower : nextRace t a b ≡ nextRace t (suc a) (suc a)
@@ -100,7 +102,7 @@ module _ (t : Trace) (w : WellFormed t) where
           go none e = next-none t w a b .1 (λ x r f. next-none t w (suc a) (suc a) .0 e x r (after-next x r f)) ∙ sym e
           go (some x) e =
               let f = next-exactly t w (suc a) (suc a) x .0 e in
-              next-exactly t w a b x .1 (record { race = f .race; later = before-next x (f .later); least = λ y r g. f .least y r (after-next y r g) }) ∙ sym e
+              next-exactly t w a b x .1 (record { answer = f .answer; later = before-next x (f .later); least = λ y r g. f .least y r (after-next y r g) }) ∙ sym e
 
     pub next-over : length t < a → nextRace t a b ≡ none
     next-over h =

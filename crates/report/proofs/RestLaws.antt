@@ -3,66 +3,21 @@ use Prim.Native.Nat.{ℕ, zero, suc, _+_, _*_, _≤_, _<_}
 use native.Mathlib.Omega.{arith}
 use native.Mathlib.Nat.{mul-suc}
 use mathlib.Core.Path.{_≡_, refl, _∙_, ap}
-use mathlib.Core.Logic.{inl, ⊎-elim}
-use mathlib.Core.Bool.{false}
+use mathlib.Core.Logic.{inl}
 use mathlib.Core.Option.{Option, none, some}
-use mathlib.Core.List.{List, [], _∷_, _++_, append-assoc, List·Memᴰ, List·Memᴰ·head, List·Memᴰ·tail}
+use mathlib.Core.List.{List, [], _∷_, _++_, append-assoc}
 use lib.ListN.{length, length-append, length-reverse}
 use Rattle.model.specs.Trace.{Trace}
-use Rattle.model.specs.Lists.{upTo, numbers}
+use Rattle.model.specs.Lists.{upTo, numbers, pair}
 use Rattle.model.specs.Good.{WellFormed, maxEvents}
-use Rattle.model.specs.Listing.{Race, After, Sorted}
-use Rattle.decision.specs.Decision.{witness, isConflicting, raceWith, each, pairOn, conflictingPairs, races, isAfter, firstAfter, nextRace}
-use Rattle.model.proofs.Tests.{by-cases, false-test}
-use Rattle.decision.proofs.ListingExact.{races-listing, after-true, true-after}
+use Rattle.model.specs.Listing.{Race, pairOf}
+use Rattle.decision.specs.Decision.{witness, isConflicting, raceWith, each, pairOn, conflictingPairs, races, nextRace}
+use Rattle.model.proofs.Tests.{by-cases}
+use Rattle.decision.proofs.OrderExact.{all-after, none-after, first-rest}
+use Rattle.decision.proofs.ListingExact.{races-listing}
 use Rattle.lines.specs.Lines.{raceLine, racesLine}
-use Rattle.report.specs.Rest.{raceLines, racesAfter, racesLeft, lastLine, rest, linesLeft, Stands, atStart}
+use Rattle.report.specs.Rest.{raceLines, racesLeft, lastLine, rest, linesLeft, Stands, atStart}
 use Rattle.report.specs.declared.Position.{Position}
-
--- ---- the races of a list after two numbers
-
--- a race does not come after itself, nor after one that comes after it
-not-after : (x y : Race) → ¬ After (x .lower) (x .higher) y → isAfter (x .lower) (x .higher) y ≡ false
-not-after x y n = false-test (after-true (x .lower) (x .higher) y) n
-
-not-before : (x y : Race) → After (y .lower) (y .higher) x → ¬ After (x .lower) (x .higher) y
-not-before x y f g = ⊎-elim (λ p. ⊎-elim (λ q. omega arith) (λ q. omega arith) g) (λ p. ⊎-elim (λ q. omega arith) (λ q. omega arith) g) f
-
-not-own : (x : Race) → ¬ After (x .lower) (x .higher) x
-not-own x f = ⊎-elim (λ p. omega arith) (λ p. let q = p .1 in omega arith) f
-
--- all races of a list that come after (a, b)
-all-after : (a b : ℕ) (l : List Race) → ((y : Race) → List·Memᴰ y l → After a b y) → racesAfter a b l ≡ l
-all-after a b [] f = refl
-all-after a b (x ∷ l) f = rw (true-after a b x (f x (List·Memᴰ·head refl)))
-
-module _ (a b : ℕ) where
-  none-after : (l : List Race) → firstAfter a b l ≡ none → racesAfter a b l ≡ []
-  none-after [] e = refl
-  none-after (y ∷ l) e =
-      by-cases (isAfter a b y)
-      (λ p. let d : _≡_ {A = Option Race} (some y) none = rw p at e in let z : _≡_ {A = ℕ} 0 1 = cc in absurd (omega arith))
-      (λ p. rw p (none-after l (rw p at e)))
-
-  first-in : (l : List Race) (x : Race) → firstAfter a b l ≡ some x → List·Memᴰ x l
-  first-in [] x e = let z : _≡_ {A = ℕ} 0 1 = cc in absurd (omega arith)
-  first-in (y ∷ l) x e =
-      by-cases (isAfter a b y)
-      (λ p. let d : _≡_ {A = Option Race} (some y) (some x) = rw p at e in List·Memᴰ·head (cc))
-      (λ p. List·Memᴰ·tail (first-in l x (rw p at e)))
-
-  -- the first of them, and those after it
-  first-after : (l : List Race) → Sorted l → (x : Race) → firstAfter a b l ≡ some x → racesAfter a b l ≡ x ∷ racesAfter (x .lower) (x .higher) l
-  first-after [] s x e = let z : _≡_ {A = ℕ} 0 1 = cc in absurd (omega arith)
-  first-after (y ∷ l) s x e =
-      by-cases (isAfter a b y)
-      (λ p.
-      let d : _≡_ {A = Option Race} (some y) (some x) = rw p at e in
-      let q : y ≡ x = cc in
-      rw (p, ← q, not-after y y (not-own y), all-after (y .lower) (y .higher) l (s .0)))
-      (λ p.
-      let m = first-in l x (rw p at e) in
-      rw (p, not-after x y (not-before x y (s .0 x m))) (first-after l (s .1) x (rw p at e)))
 
 -- ---- how many races there may be
 
@@ -109,7 +64,7 @@ last-left t p = let n = length-append (raceLines (racesLeft t p)) (lastLine t) i
 module _ (t : Trace) (w : WellFormed t) where
   start-left : racesLeft t atStart ≡ races t
   unfolding racesLeft
-  start-left = all-after 0 0 (races t) (λ y m. let v = races-listing t w .members y .0 m .conflicting .first .positive in inl (omega arith))
+  start-left = all-after pairOf (pair 0 0) (races t) (λ y m. let v = races-listing t w .members y .0 m .conflicting .first .positive in inl (omega arith))
 
   -- at the start the rest is all but the first line
   pub start-rest : rest t atStart ≡ raceLines (races t) ++ racesLine (length (races t))
@@ -125,7 +80,7 @@ module _ (t : Trace) (w : WellFormed t) where
     module _ (e : nextRace t (p .lower) (p .higher) ≡ none) where
       none-left : racesLeft t p ≡ []
       unfolding racesLeft nextRace
-      none-left = none-after (p .lower) (p .higher) (races t) e
+      none-left = none-after pairOf (pair (p .lower) (p .higher)) (races t) e
 
       pub rest-end : rest t p ≡ racesLine (length (races t))
       unfolding rest
@@ -142,7 +97,7 @@ module _ (t : Trace) (w : WellFormed t) where
 
       one-left : racesLeft t p ≡ x ∷ racesLeft t next-position
       unfolding racesLeft nextRace
-      one-left = first-after (p .lower) (p .higher) (races t) (races-listing t w .sorted) x e
+      one-left = first-rest pairOf (pair (p .lower) (p .higher)) (races t) (races-listing t w .sorted) x e
 
       pub rest-race : rest t p ≡ raceLine (x .lower) (x .higher) (x .witness) ++ rest t next-position
       unfolding rest

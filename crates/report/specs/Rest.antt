@@ -1,12 +1,13 @@
 -- What is left of the report of a good file after some of its lines.
 use Prim.Native.Nat.{ℕ, suc, _+_}
 use mathlib.Core.Path.{_≡_}
-use mathlib.Core.Bool.{cond}
 use mathlib.Core.List.{List, [], _∷_, _++_}
 use lib.ListN.{length}
 use Rattle.model.specs.Trace.{Trace}
-use Rattle.model.specs.Listing.{Race}
-use Rattle.decision.specs.Decision.{races, isAfter}
+use Rattle.model.specs.Lists.{pair}
+use Rattle.model.specs.Listing.{Race, pairOf}
+use Rattle.decision.specs.Order.{restAfter}
+use Rattle.decision.specs.Decision.{races}
 use Rattle.lines.specs.Lines.{raceLine, racesLine}
 use Rattle.report.specs.declared.Position.{Position}
 
@@ -15,14 +16,9 @@ abbrev pub raceLines : List Race → List ℕ
 raceLines [] = []
 raceLines (x ∷ l) = raceLine (x .lower) (x .higher) (x .witness) ++ raceLines l
 
--- the races of a list from the first that comes after (a, b) on
-abbrev pub racesAfter : ℕ → ℕ → List Race → List Race
-racesAfter a b [] = []
-racesAfter a b (x ∷ l) = cond (isAfter a b x) (x ∷ l) (racesAfter a b l)
-
 -- the races of a trace that are still to come at a position
 unfoldable pub racesLeft : Trace → Position → List Race
-racesLeft t p = racesAfter (p .lower) (p .higher) (races t)
+racesLeft t p = restAfter pairOf (pair (p .lower) (p .higher)) (races t)
 
 -- the last line of the report of a good file: how many races it has
 abbrev pub lastLine : Trace → List ℕ

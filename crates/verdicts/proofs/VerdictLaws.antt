@@ -31,10 +31,13 @@ front-bytes area h = sym (length-take-le areaBytes area h)
 pub area-long : (area : List ℕ) (b : Bool) → b ≡ isAreaSize (length area) → not b ≡ false → areaBytes ≤ length area
 area-long area b e w = area-true (length area) (sym e ∙ not-false b w)
 
--- the whole after its front was cleared
+-- the whole after its front was cleared; over any number of bytes first, since 65,536 zeros are not to be written out
+front-zero : (n : ℕ) (area part : List ℕ) → n ≤ length area → part ≡ replicate (length (take n area)) 0 → part ++ drop n area ≡ replicate n 0 ++ drop n area
+front-zero n area part h z = ap (λ (l : List ℕ). l ++ drop n area) (z ∙ ap (λ (m : ℕ). replicate m 0) (length-take-le n area h))
+
 pub whole-area : (area part : List ℕ) → areaBytes ≤ length area → part ≡ replicate (length (take areaBytes area)) 0 → part ++ drop areaBytes area ≡ cleared area
 unfolding cleared
-whole-area area part h z = ap (λ (l : List ℕ). l ++ drop areaBytes area) (z ∙ ap (λ (n : ℕ). replicate n 0) (sym (front-bytes area h)))
+whole-area area part h z = front-zero areaBytes area part h z
 
 -- what is lent for witnesses, once it was cleared
 pub lent : {table : List ℕ} → Linked table → (list : List ℕ) → length (trace table) ≤ length list
