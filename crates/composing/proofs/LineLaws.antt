@@ -7,7 +7,7 @@ use mathlib.Core.Logic.{_≢_}
 use mathlib.Core.Bool.{Bool, true, false, not, true≢false}
 use mathlib.Core.List.{List, [], _∷_, _++_, List·Memᴰ·head}
 use lib.ListN.{length, take, drop, length-append, take-append-drop}
-use lib.Seq.{take-at, length-take-le}
+use lib.Seq.{take-at}
 use lib.Dec.{eqb}
 use borrow.Author.Tests.{not-true, not-false}
 use Rattle.model.proofs.Tests.{by-cases, clash}
@@ -61,9 +61,6 @@ word-whole k =
     (λ p. by-cases (eqb k write) (λ q. rw (p, q)) (λ q. by-cases (eqb k acquire) (λ r. rw (p, q, r)) (λ r. rw (p, q, r))))
 
 -- ---- at the first space
-
-pub part-length : (i : ℕ) (s : List ℕ) → i ≤ length s → i ≡ length (take i s)
-part-length i s h = sym (length-take-le i s h)
 
 -- a word before the first space is all that stands before it
 module _ (s : List ℕ) (i : ℕ) (at-space : i ≡ firstAt 32 s) (x y : List ℕ) (whole : firstAt 32 x ≡ length x) (these : s ≡ x ++ (32 ∷ y)) where

@@ -111,8 +111,8 @@ module _ {A B : Type 0} (f : A → List B) where
 -- ---- the conflicting pairs
 
 -- by lower event, then by higher
-abbrev numbersOf : ℕ × ℕ → List ℕ
-numbersOf p = pair (p .0) (p .1)
+abbrev Before : ℕ × ℕ → ℕ × ℕ → Type 0
+Before p q = After (pair (p .0) (p .1)) (pair (q .0) (q .1))
 
 module _ (t : Trace) where
   on-pair : (a b : ℕ) (p : ℕ × ℕ) → List·Memᴰ p (pairOn t a b) → (p .0 ≡ a) × (p .1 ≡ b) × Conflicting t a b
@@ -139,20 +139,17 @@ module _ (t : Trace) where
         (rw (conflicting-exactly t (p .0) (p .1) .1 c) (List·Memᴰ·head refl)))),
   )
 
-  pairs-sorted : Sorted numbersOf (conflictingPairs t)
+  pairs-sorted : Ordered Before (conflictingPairs t)
   unfolding conflictingPairs row
   pairs-sorted =
-      each-ordered row In (λ j k. j < k)
+      each-ordered row Before (λ j k. j < k)
       (λ a.
-      each-ordered (λ b. pairOn t a b) In (λ j k. j < k)
+      each-ordered (λ b. pairOn t a b) Before (λ j k. j < k)
       (λ b. by-cases (isConflicting t a b) (λ e. rw e ((λ y m. absurd (List·Memᴰ·not-nil m)), tt)) (λ e. rw e tt))
       (λ j k x y l m n. let p = on-pair a j x m in let q = on-pair a k y n in inr (p .0 ∙ sym (q .0), inl (rw (p .1, q .1) l)))
       (numbers t) (increasing-numbers t))
       (λ j k x y l m n. let p = mem-row j x m in let q = mem-row k y n in inl (rw (p .0, q .0) l))
       (numbers t) (increasing-numbers t)
-    where
-      In : ℕ × ℕ → ℕ × ℕ → Type 0
-      In p q = After (numbersOf p) (numbersOf q)
 
   -- ---- the listing
 
@@ -172,7 +169,7 @@ module _ (t : Trace) where
   races-sorted : Sorted pairOf (races t)
   unfolding races onPair
   races-sorted =
-      each-ordered onPair (λ x y. After (pairOf x) (pairOf y)) (λ p q. After (numbersOf p) (numbersOf q)) (λ p. go (p .0) (p .1) (witness t (p .0) (p .1)))
+      each-ordered onPair (λ x y. After (pairOf x) (pairOf y)) Before (λ p. go (p .0) (p .1) (witness t (p .0) (p .1)))
       (λ j k x y l m n. let p = on-race j x m in let q = on-race k y n in rw (p .0, p .1, q .0, q .1) l)
       (conflictingPairs t) pairs-sorted
     where

@@ -4,7 +4,7 @@ use native.Mathlib.Omega.{arith}
 use mathlib.Core.Path.{_≡_, refl, sym, _∙_, ap, subst}
 use mathlib.Core.Logic.{_⊎_, inl, inr, ⊎-elim, _↔_}
 use mathlib.Core.Bool.{true, false, _&&_}
-use mathlib.Core.Option.{Option, none, some}
+use mathlib.Core.Option.{Option, none, some, Option·none-ne-some, Option·some-ne-none, Option·some-injective}
 use mathlib.Core.List.{List, [], _∷_, List·Memᴰ, List·Memᴰ·head, List·Memᴰ·tail, List·Memᴰ·not-nil}
 use lib.Dec.{eqb, ltb}
 use borrow.Author.Tests.{eqb-true, eq-eqb, ltb-true, lt-ltb}
@@ -51,27 +51,21 @@ by-last c = ⊎-elim (λ p. p) (λ p. absurd (p .1)) c
 -- ---- the first of a list
 
 module _ {A : Type 0} (of : A → List ℕ) (k : List ℕ) where
-  -- x is the first of a list's answers after k
-  record FirstIn (l : List A) (x : A) : Type 0 where
-    member : List·Memᴰ x l
-    later : After k (of x)
-    least : (y : A) → List·Memᴰ y l → After k (of y) → (y ≡ x) ⊎ After (of x) (of y)
-
-  first-some : (l : List A) → Sorted of l → (x : A) → firstAfter of k l ≡ some x → FirstIn l x
-  first-some [] s x e = let z : _≡_ {A = ℕ} 0 1 = cc in absurd (omega arith)
+  first-some : (l : List A) → Sorted of l → (x : A) → firstAfter of k l ≡ some x → FirstAfter of (λ y. List·Memᴰ y l) k x
+  first-some [] s x e = absurd (Option·none-ne-some _ e)
   first-some (j ∷ l) s x e =
       by-cases (isAfter k (of j))
       (λ p.
-      let q : j ≡ x = let d : _≡_ {A = Option A} (some j) (some x) = rw p at e in cc in
+      let q : j ≡ x = Option·some-injective _ _ (rw p at e) in
       record {
-        member = List·Memᴰ·head (sym q);
+        answer = List·Memᴰ·head (sym q);
         later = subst (λ (y : A). After k (of y)) q (after-true k (of j) p);
         least = λ y m f. in-cons m (λ d. inl (d ∙ q)) (λ n. inr (subst (λ (z : A). After (of z) (of y)) q (s .0 y n)));
       })
       (λ p.
       let ih = first-some l (s .1) x (rw p at e) in
       record {
-        member = List·Memᴰ·tail (ih .member);
+        answer = List·Memᴰ·tail (ih .answer);
         later = ih .later;
         least = λ y m f. in-cons m (λ d. clash (true-after k (of j) (subst (λ (z : A). After k (of z)) d f)) p) (λ n. ih .least y n f);
       })
@@ -80,14 +74,14 @@ module _ {A : Type 0} (of : A → List ℕ) (k : List ℕ) where
   first-none [] e y m f = List·Memᴰ·not-nil m
   first-none (j ∷ l) e y m f =
       by-cases (isAfter k (of j))
-      (λ p. let d : _≡_ {A = Option A} (some j) none = rw p at e in let z : _≡_ {A = ℕ} 0 1 = cc in omega arith)
+      (λ p. Option·some-ne-none _ (rw p at e))
       (λ p. in-cons m (λ d. clash (true-after k (of j) (subst (λ (z : A). After k (of z)) d f)) p) (λ n. first-none l (rw p at e) y n f))
 
   module _ {Is : A → Type 0} {l : List A} (is : Listing of Is l) where
     first-is : (x : A) → firstAfter of k l ≡ some x → FirstAfter of Is k x
     first-is x e =
         let r = first-some l (is .sorted) x e in
-        record { answer = is .members x .0 (r .member); later = r .later; least = λ y z f. r .least y (is .members y .1 z) f }
+        record { answer = is .members x .0 (r .answer); later = r .later; least = λ y z f. r .least y (is .members y .1 z) f }
 
     none-is : firstAfter of k l ≡ none → (x : A) → Is x → ¬ After k (of x)
     none-is e x r = first-none l e x (is .members x .1 r)
@@ -124,18 +118,17 @@ module _ {A : Type 0} (of : A → List ℕ) where
   none-after k [] e = refl
   none-after k (y ∷ l) e =
       by-cases (isAfter k (of y))
-      (λ p. let d : _≡_ {A = Option A} (some y) none = rw p at e in let z : _≡_ {A = ℕ} 0 1 = cc in absurd (omega arith))
+      (λ p. absurd (Option·some-ne-none _ (rw p at e)))
       (λ p. rw p (none-after k l (rw p at e)))
 
   -- the first, and those after it
   pub first-rest : (k : List ℕ) (l : List A) → Sorted of l → (x : A) → firstAfter of k l ≡ some x → restAfter of k l ≡ x ∷ restAfter of (of x) l
-  first-rest k [] s x e = let z : _≡_ {A = ℕ} 0 1 = cc in absurd (omega arith)
+  first-rest k [] s x e = absurd (Option·none-ne-some _ e)
   first-rest k (y ∷ l) s x e =
       by-cases (isAfter k (of y))
       (λ p.
-      let d : _≡_ {A = Option A} (some y) (some x) = rw p at e in
-      let q : y ≡ x = cc in
+      let q : y ≡ x = Option·some-injective _ _ (rw p at e) in
       rw (p, ← q, false-after (of y) (of y) (not-itself (of y)), all-after (of y) l (s .0)))
       (λ p.
-      let m = first-some of k l (s .1) x (rw p at e) .member in
+      let m = first-some of k l (s .1) x (rw p at e) .answer in
       rw (p, false-after (of x) (of y) (not-both (of y) (of x) (s .0 x m))) (first-rest k l (s .1) x (rw p at e)))

@@ -49,7 +49,7 @@ module _ (z : ℕ) (s : List ℕ) (l : Layout z s) where
     unfolding events
     number-of-events = trace-length z (eventPart z s) ∙ ap (λ (n : ℕ). n / z) part-length ∙ mul-div-right (count s) (omega arith)
 
-    byte-of : (p : ℕ) → p < z * count s → byte (eventPart z s) p ≡ byte s (start s + p)
+    pub byte-of : (p : ℕ) → p < z * count s → byte (eventPart z s) p ≡ byte s (start s + p)
     unfolding eventPart
     byte-of p q = rw (getD-take, getD-drop)
 

@@ -13,10 +13,10 @@ use lib.Dec.{eqb}
 use mir.Val.{Fits}
 use mir.Syntax.{w64}
 use borrow.Author.Tests.{eqb-true, eqb-false}
-use Rattle.model.specs.Trace.{Trace, Valid, acquire, release, kindOf, objectOf, does}
+use Rattle.model.specs.Trace.{Trace, Valid, acquire, release, kindOf, objectOf}
 use Rattle.model.specs.Lists.{upTo, before, numbers}
 use Rattle.model.specs.Good.{maxEvents, maxObject, depth, holder}
-use Rattle.model.proofs.Tests.{by-cases, false-does, does-true, false-test}
+use Rattle.model.proofs.Tests.{by-cases, false-does, not-on}
 use Rattle.model.proofs.Lists.{numbers-split}
 use Rattle.limits.specs.declared.Refusal.{Refusal}
 use Rattle.judging.specs.Judged.{eventRefusal, refusalIn}
@@ -41,9 +41,6 @@ pub record Judging (t : Trace) (n k : ℕ) (locks : Locks) : Type 0 where
 -- ---- what an event does
 
 module _ (t : Trace) (k : ℕ) where
-  quiet : (c x : ℕ) → x ≢ objectOf t k → does t c x k ≡ false
-  quiet c x ne = false-test (does-true t c x k) (λ p. ne (sym (p .1)))
-
   -- the effect, by the refusal of the event
   stopped : (o : Option Refusal) (u : Effect) (r : Refusal) → refusedOr o (locking t k) ≡ u → u ≡ Refused r → o ≡ some r
   stopped none u r e f = absurd (never (eqb (kindOf t k) acquire || eqb (kindOf t k) release) _ _ (e ∙ f))
@@ -87,7 +84,7 @@ module _ (t : Trace) (k : ℕ) where
 
   -- and no other lock changes
   after-other : (h : List ℕ) (x : ℕ) → x ≢ objectOf t k → (holder t x (k ∷ h) ≡ holder t x h) × (depth t x (k ∷ h) ≡ depth t x h)
-  after-other h x ne = rw (quiet acquire x ne, quiet release x ne) (refl, refl)
+  after-other h x ne = rw (not-on t acquire x k ne, not-on t release x k ne) (refl, refl)
 
 -- a table that was right has the new entry of lock o
 stored : (old new : ℕ → ℕ) (l : List ℕ) (o v : ℕ) → o < length l → ((x : ℕ) → x ≤ maxObject → getD l x 0 ≡ old x) → new o ≡ v

@@ -112,6 +112,9 @@ module _ (t t′ : Trace) (long : Extension t t′) where
   pub extension-agree : Agree t t′ (length t)
   extension-agree k p = rw (long .same) (sym (at-append (long .added) k p))
 
+  pub extension-thread : (k : ℕ) → k ≤ length t → threadOf t k ≡ threadOf t′ k
+  extension-thread = same-thread t t′ (length t) extension-agree
+
   pub extended-valid : (k : ℕ) → Valid t k → Valid t′ k
   extended-valid k v =
       let z : length t ≤ length t′ = rw (long .same) (let y = length-append t (long .added) in omega arith) in

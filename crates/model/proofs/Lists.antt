@@ -7,7 +7,7 @@ use mathlib.Core.Logic.{_≢_, _⊎_, inl, inr, ⊎-elim}
 use mathlib.Core.Bool.{Bool, true, false, false≢true}
 use mathlib.Core.List.{List, [], _∷_, _++_, reverse, reverseAux, reverseAux-eq, nil≢cons, head-eq-of-cons-eq, tail-eq-of-cons-eq, List·Memᴰ·head, List·Memᴰ·tail, List·Memᴰ·not-nil}
 use lib.ListN.{length, take, drop}
-use lib.Seq.{sets, sets-eq, take-append-seam}
+use lib.Seq.{sets, sets-eq, take-append-seam, length-take-le}
 use lib.Dec.{eqb, leb}
 use borrow.Author.Tests.{eqb-true, eq-eqb, leb-true, leb-false}
 use Rattle.model.specs.Trace.{Trace, Valid, threadOf}
@@ -255,7 +255,10 @@ increasing-unique (x ∷ l) (y ∷ r) i j f g =
     (λ k m. in-cons (f k (List·Memᴰ·tail m)) (λ q. let p = i .0 k m in absurd (omega arith)) (λ n. n))
     (λ k m. in-cons (g k (List·Memᴰ·tail m)) (λ q. let p = j .0 k m in absurd (omega arith)) (λ n. n))))
 
--- ---- a list in front of another
+-- ---- the front of a list, and a list in front of another
+
+pub front-length : (n : ℕ) (l : List ℕ) → n ≤ length l → n ≡ length (take n l)
+front-length n l h = sym (length-take-le n l h)
 
 pub front-taken : (ρ list : List ℕ) → take (length ρ) (inFront ρ list) ≡ ρ
 unfolding inFront

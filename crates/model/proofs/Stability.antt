@@ -14,7 +14,7 @@ use Rattle.model.specs.Race.{Apart, Candidate, Reported, Preferred, Show
 use Rattle.model.specs.Extension.{Extension}
 use Rattle.model.proofs.Lists.{mem-reverse}
 use Rattle.model.proofs.Histories.{to-legal, of-legal, observed-range}
-use Rattle.model.proofs.Agree.{Agree, Within, same-thread, same-kind, legal-agree, only-agree, observed-agree, extension-agree, extended-valid, extended-correct, extended-next}
+use Rattle.model.proofs.Agree.{Agree, Within, same-thread, same-kind, legal-agree, only-agree, observed-agree, extension-agree, extension-thread, extended-valid, extended-correct, extended-next}
 use Rattle.model.proofs.Threads.{in-pair-a, two-inside}
 use Rattle.model.proofs.OneShown.{candidate-brings}
 
@@ -90,9 +90,6 @@ module _ (t : Trace) (R : List ℕ) (v : (r : ℕ) → r ∈ R → Valid t r) (i
   low : (r : ℕ) → r ∈ R → r ≤ length t
   low r m = v r m .bounded
 
-  same : (k : ℕ) → k ≤ length t → threadOf t k ≡ threadOf t′ k
-  same = same-thread t t′ (length t) (extension-agree t t′ long)
-
   up : SameStart t t′ (length t) R
   up = record {
     agree = extension-agree t t′ long;
@@ -106,7 +103,7 @@ module _ (t : Trace) (R : List ℕ) (v : (r : ℕ) → r ∈ R → Valid t r) (i
     agree = λ k p. sym (extension-agree t t′ long k p);
     low = low;
     inside = λ k p q.
-        let x = inside k (record { positive = p; bounded = q }) in (x .0, x .1, sym (same (x .0) (low (x .0) (x .1))) ∙ x .2 ∙ same k q);
+        let x = inside k (record { positive = p; bounded = q }) in (x .0, x .1, sym (extension-thread t t′ long (x .0) (low (x .0) (x .1))) ∙ x .2 ∙ extension-thread t t′ long k q);
     valid = λ k p q. record { positive = p; bounded = q };
   }
 
@@ -119,7 +116,7 @@ module _ (t : Trace) (R : List ℕ) (v : (r : ℕ) → r ∈ R → Valid t r) (i
 -- a pair in a trace by at most two threads
 module _ (t : Trace) (two : TwoThreads t) (a b : ℕ) (c : Apart t (pair a b)) (t′ : Trace) (long : Extension t t′) where
   moved : threadOf t a ≡ threadOf t′ a
-  moved = same-thread t t′ (length t) (extension-agree t t′ long) a (c .valid a (in-pair-a a b) .bounded)
+  moved = extension-thread t t′ long a (c .valid a (in-pair-a a b) .bounded)
 
   pub same-verdict : Reported t a b ↔ Reported t′ a b
   same-verdict =

@@ -91,6 +91,10 @@ module _ (t : Trace) (c x k : ℕ) where
   unfolding does
   false-does ne = rw (ne-eqb (kindOf t k) c ne)
 
+  -- nor one on another object
+  pub not-on : x ≢ objectOf t k → does t c x k ≡ false
+  not-on ne = false-test does-true (λ d. ne (sym (d .1)))
+
 -- what is of some kind is an event
 pub kind-valid : (t : Trace) (k : ℕ) → kindOf t k ≢ 0 → Valid t k
 kind-valid t zero ne = absurd (ne refl)

@@ -1,6 +1,6 @@
 -- Where all events are by the roots' threads, and those outside the moved thread by one other, as in a trace by at most two threads,
 -- the roots are reported exactly when some correct reordering, of the trace or of an extension, brings all of them next.
-use Prim.Native.Nat.{ℕ, _≤_}
+use Prim.Native.Nat.{ℕ}
 use native.Mathlib.Omega.{arith}
 use mathlib.Core.Path.{_≡_, sym, _∙_}
 use mathlib.Core.Logic.{inl, inr, _↔_}
@@ -21,7 +21,7 @@ use Rattle.model.proofs.Tests.{by-cases, true-just, allBut-true}
 use Rattle.model.proofs.Lists.{any-mem, mem-any, mem-only, only-mem, keep-keep, mem-reverse, reverse-mem, increasing-keep}
 use Rattle.model.proofs.Histories.{Legal, to-legal, of-legal, legal-valid, own-increasing, enabled-mem, mem-enabled, observed-range, legal-observed}
 use Rattle.model.proofs.Locks.{locked, legal-only}
-use Rattle.model.proofs.Agree.{same-thread, legal-agree, extension-agree}
+use Rattle.model.proofs.Agree.{legal-agree, extension-agree, extension-thread}
 use Rattle.model.proofs.Threads.{apart-same, two-inside, two-beside}
 use Rattle.model.proofs.OneShown.{candidate-brings}
 use Rattle.model.proofs.ConeEvents.{earlier-valid}
@@ -64,20 +64,17 @@ module _ (t : Trace) (R : List ℕ) (c : Apart t R) (inside : AllInside t R) (t�
   abbrev kept : List ℕ
   kept = only t′ s h
 
-  same : (k : ℕ) → k ≤ length t → threadOf t k ≡ threadOf t′ k
-  same = same-thread t t′ (length t) (extension-agree t t′ long)
-
   before-root : (r : ℕ) → r ∈ R → (k : ℕ) → k ∈ h → threadOf t′ k ≡ threadOf t r → Earlier t k r
   before-root r i k m p =
       let y = c .valid r i .bounded in
-      let z = enabled-mem t′ h r (en r i .next) k m (p ∙ same r y) in
-      record { first = z .0; less = z .1; thread = same k (omega arith) ∙ p }
+      let z = enabled-mem t′ h r (en r i .next) k m (p ∙ extension-thread t t′ long r y) in
+      record { first = z .0; less = z .1; thread = extension-thread t t′ long k (omega arith) ∙ p }
 
   root-before : (r : ℕ) → r ∈ R → (k : ℕ) → Earlier t k r → k ∈ h
   root-before r i k x =
       let y = c .valid r i .bounded in
       let z = x .less in
-      mem-enabled t′ h r (en r i .next) k (x .first) (x .less) (sym (same k (omega arith)) ∙ x .thread ∙ same r y)
+      mem-enabled t′ h r (en r i .next) k (x .first) (x .less) (sym (extension-thread t t′ long k (omega arith)) ∙ x .thread ∙ extension-thread t t′ long r y)
 
   near-valid : (k : ℕ) → Near t R k → Valid t k
   near-valid k x = earlier-valid t k (x .0) (c .valid (x .0) (x .1)) (x .2)
@@ -90,7 +87,7 @@ module _ (t : Trace) (R : List ℕ) (c : Apart t R) (inside : AllInside t R) (t�
   kept-near k m = let x = mem-only t′ s k h m in mem-near k (x .0) (x .1)
 
   known : (k : ℕ) → Valid t k → s (threadOf t′ k) ≡ true
-  known k v = let x = inside k v in true-among t R (threadOf t′ k) (x .0) (x .1) (x .2 ∙ same k (v .bounded))
+  known k v = let x = inside k v in true-among t R (threadOf t′ k) (x .0) (x .1) (x .2 ∙ extension-thread t t′ long k (v .bounded))
 
   near-kept : (k : ℕ) → Near t R k → k ∈ kept
   near-kept k x = only-mem t′ s (root-before (x .0) (x .1) k (x .2)) (known k (near-valid k x))

@@ -10,11 +10,11 @@ use Rattle.model.specs.Trace.{Trace, Valid, write, kindOf, objectOf, does}
 use Rattle.model.specs.Lists.{nearest}
 use Rattle.model.specs.Observed.{LastBefore, Unwritten}
 use Rattle.model.specs.Good.{Good, maxObject}
-use Rattle.model.proofs.Tests.{by-cases, true-does, false-does}
+use Rattle.model.proofs.Tests.{by-cases, true-does, false-does, not-on}
 use Rattle.model.proofs.ObservedExact.{last-write-exactly, unwritten-exactly}
 use Rattle.table.proofs.EntryLaws.{entries-new, entries-same, entries-put}
 use Rattle.opening.specs.Knows.{LastWrites, withWrite}
-use Rattle.opening.proofs.KnowsLaws.{known-next, none}
+use Rattle.opening.proofs.KnowsLaws.{known-next}
 
 -- it knows it before the first event
 pub knows-first : (t : Trace) → LastWrites t 1 (replicate (maxObject + 1) 0)
@@ -27,7 +27,7 @@ knows-kept {t} {k} g v p =
     let x = objectOf t k in
     known-next g v (λ y h. nearest (does t write y) h)
     (by-cases (eqb (kindOf t k) write)
-    (λ e. rw e (entries-put p _ x k (g .object-limit k v) (rw (true-does t write x k (eqb-true _ _ e) refl)) (λ y ne. rw (none g v write y ne))))
+    (λ e. rw e (entries-put p _ x k (g .object-limit k v) (rw (true-does t write x k (eqb-true _ _ e) refl)) (λ y ne. rw (not-on t write y k ne))))
     (λ e. rw e (entries-same p _ (λ y. rw (false-does t write y k (eqb-false _ _ e))))))
 
 -- in words: a write is the cell's last before event k, and 0 is for a cell that is not written before it

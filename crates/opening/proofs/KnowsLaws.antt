@@ -8,11 +8,11 @@ use mathlib.Core.Bool.{true, false, Bool, cond, _&&_}
 use mathlib.Core.List.{List, _∷_}
 use lib.ListN.{set, replicate, length}
 use borrow.Author.Tests.{eq-eqb, ne-eqb, eqb-true, lt-ltb, le-ltb}
-use Rattle.model.specs.Trace.{Trace, Valid, acquire, release, threadOf, kindOf, objectOf, does}
+use Rattle.model.specs.Trace.{Trace, Valid, acquire, release, threadOf, kindOf, objectOf}
 use Rattle.model.specs.Lists.{before, nearest, just, upTo}
 use Rattle.model.specs.Good.{Good, maxThread, maxObject, depth, holder, WellFormed}
 use Rattle.model.specs.Sections.{isLast, isOutermost}
-use Rattle.model.proofs.Tests.{true-just, false-just, false-does, does-true, false-test, by-cases}
+use Rattle.model.proofs.Tests.{true-just, false-just, false-does, by-cases, not-on}
 use Rattle.table.specs.Entries.{Entries}
 use Rattle.table.proofs.EntryLaws.{entries-new, entries-same, entries-put}
 use Rattle.opening.specs.Knows.{LastEvents, Depths, NextEnds, lastOn, nextEnd}
@@ -103,15 +103,11 @@ module _ {t : Trace} {k : ℕ} (g : Good t) (v : Valid t k) where
       known-next (λ x h. nearest (λ j. just x (threadOf t j)) h)
       (entries-put p _ c k (g .thread-limit k v) (rw (true-just c c refl)) (λ d ne. rw (false-just d c (λ q. ne (sym q)))))
 
-  -- event k does nothing to another object
-  pub none : (c x : ℕ) → x ≢ objectOf t k → does t c x k ≡ false
-  none c x ne = false-test (does-true t c x k) (λ d. ne (sym (d .1)))
-
   module _ {l : List ℕ} (p : Depths t k l) where
     pub depths-put : (d : ℕ) → d ≡ depth t (objectOf t k) (k ∷ before k) → Depths t (k + 1) (set l (objectOf t k) d)
     depths-put d e =
         known-next (depth t)
-        (entries-put p (λ x. depth t x (k ∷ before k)) (objectOf t k) d (g .object-limit k v) (sym e) (λ x ne. rw (none acquire x ne, none release x ne)))
+        (entries-put p (λ x. depth t x (k ∷ before k)) (objectOf t k) d (g .object-limit k v) (sym e) (λ x ne. rw (not-on t acquire x k ne, not-on t release x k ne)))
 
     pub depths-same : kindOf t k ≢ acquire → kindOf t k ≢ release → Depths t (k + 1) l
     depths-same a r = known-next (depth t) (entries-same p (λ x. depth t x (k ∷ before k)) (λ x. rw (false-does t acquire x k a, false-does t release x k r)))

@@ -1,10 +1,8 @@
 -- The ways through question 6.
-use Prim.Native.Nat.{ℕ, _≤_}
+use Prim.Native.Nat.{_≤_}
 use native.Mathlib.Omega.{arith}
 use mathlib.Core.Path.{_≡_, sym, _∙_, ap}
-use mathlib.Core.List.{List}
-use lib.ListN.{length, take}
-use lib.Seq.{length-take-le}
+use lib.ListN.{length}
 use borrow.Author.Tests.{eq-eqb, ne-eqb}
 use Rattle.limits.specs.Limits.{eventBytes}
 use Rattle.format.specs.Layout.{start, preamble, fileOf}
@@ -40,6 +38,3 @@ module _ (file operator : Slice) (f : File) (is : f ≡ fileOf (file .now) (refu
 
     pub preamble-within : t .start ≤ length (file .now)
     preamble-within = let b = starts in let l = filled eventBytes (file .now) (judged-good (file .now) f is t e .layout) in omega arith
-
-pub front-length : (m : ℕ) (s : List ℕ) → m ≤ length s → m ≡ length (take m s)
-front-length m s h = sym (length-take-le m s h)

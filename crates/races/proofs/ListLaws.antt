@@ -5,7 +5,7 @@ use native.Mathlib.Numerals.{add-one}
 use native.Mathlib.Decide.{decLt, ℕ-discrete}
 use mathlib.Core.Path.{_≡_, refl, sym, _∙_, ap}
 use mathlib.Core.Bool.{Bool, true, false, not}
-use mathlib.Core.Option.{Option, none, some}
+use mathlib.Core.Option.{Option, none, some, Option·none-ne-some, Option·some-injective}
 use mathlib.Core.List.{List}
 use mir.Val.{Fits}
 use mir.Syntax.{w16}
@@ -29,12 +29,6 @@ use Rattle.races.specs.declared.Handed.the-variants.{NoMore, Race as Rac
 use mathlib.Core.Logic.{_⊎_, inl, inr, ⊎-elim}
 use Rattle.model.specs.Good.{WellFormed}
 
-some-same : {A : Type 0} {x y : A} → _≡_ {A = Option A} (some x) (some y) → x ≡ y
-some-same e = cc
-
-none-some : {A : Type 0} {x : A} → _≡_ {A = Option A} none (some x) → ⊥
-none-some e = let z : _≡_ {A = ℕ} 0 1 = cc in omega arith
-
 module _ (t : Trace) (w : WellFormed t) where
   -- two numbers that have a witness are a race
   witnessed-race : (a y : ℕ) (ρ : List ℕ) → witnessOf t a y ≡ some ρ → RaceOf t (record { lower = a; higher = y; witness = ρ })
@@ -44,7 +38,7 @@ module _ (t : Trace) (w : WellFormed t) where
       (λ p.
       let c = conflicting-exactly t a y .0 p in
       record { conflicting = c; shown = witness-exactly t w a y c ρ .0 (rw p at e) })
-      (λ p. absurd (none-some (rw p at e)))
+      (λ p. absurd (Option·none-ne-some _ (rw p at e)))
 
   race-witness : (x : Race) → RaceOf t x → witnessOf t (x .lower) (x .higher) ≡ some (x .witness)
   unfolding witnessOf
@@ -64,9 +58,9 @@ module _ (t : Trace) (w : WellFormed t) where
             go : Dec (y < x .higher) → Dec (x .higher ≡ y) → (x ≡ record { lower = a; higher = y; witness = ρ }) ⊎ After (pair a y) (pairOf x)
             go (yes l) d = inr (inr (p, inl l))
             go (no l) (yes d) =
-                let s : x .witness ≡ ρ = some-same (sym found ∙ ap (λ (k : ℕ). witnessOf t a k) d ∙ e) in
+                let s : x .witness ≡ ρ = Option·some-injective _ _ (sym found ∙ ap (λ (k : ℕ). witnessOf t a k) d ∙ e) in
                 inl (rw (p, ← d, ← s))
-            go (no l) (no d) = absurd (none-some (sym (none-before (x .higher) q (omega arith)) ∙ found))
+            go (no l) (no d) = absurd (Option·none-ne-some _ (sym (none-before (x .higher) q (omega arith)) ∙ found))
 
     pub next-found : (x : Race) → FirstWith t a b (some x) → nextRace t a b ≡ some x
     next-found x (with-race y ρ l e none-before) =
@@ -79,7 +73,7 @@ module _ (t : Trace) (w : WellFormed t) where
           ⊎-elim (λ p. p)
           (λ p.
           let e : witnessOf t a (x .higher) ≡ some (x .witness) = ap (λ (k : ℕ). witnessOf t k (x .higher)) (p .0) ∙ race-witness x r in
-          absurd (none-some (sym (none-left (suc (x .higher)) (x .higher) (by-last (p .1)) (omega arith)) ∙ e)))
+          absurd (Option·none-ne-some _ (sym (none-left (suc (x .higher)) (x .higher) (by-last (p .1)) (omega arith)) ∙ e)))
           f
 
       after-next : (x : Race) → RaceOf t x → After (pair a b) (pairOf x) → After (pair (suc a) (suc a)) (pairOf x)

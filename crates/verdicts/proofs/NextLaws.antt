@@ -10,6 +10,7 @@ use borrow.Author.Tests.{not-true, not-false}
 use Rattle.model.specs.Trace.{Trace}
 use Rattle.model.specs.Good.{maxEvents}
 use Rattle.model.specs.Listing.{Race}
+use Rattle.model.proofs.Lists.{front-length}
 use Rattle.decision.specs.Decision.{nextRace}
 use Rattle.limits.specs.Limits.{areaBytes, isAreaSize}
 use Rattle.limits.specs.declared.Refusal.the-variants.{AreaShort}
@@ -23,7 +24,7 @@ use Rattle.verdicts.specs.Next.{next, nextIn}
 use Rattle.verdicts.specs.Deciding.{Searchable, Finds}
 use Rattle.verdicts.specs.declared.Next.{Next}
 use Rattle.verdicts.specs.declared.Next.the-variants.{Refused, Race as RaceOn, NoRace}
-use Rattle.verdicts.proofs.VerdictLaws.{front-bytes, area-long, whole-area, lent}
+use Rattle.verdicts.proofs.VerdictLaws.{area-long, whole-area, lent}
 
 -- ---- on a cleared work area
 
@@ -43,7 +44,7 @@ module _ (area area₁ : List ℕ) (c : area₁ ≡ replicate (length area) 0) w
 -- ---- the refusal, and the answer
 
 pub next-searchable : (area : List ℕ) (d : Bool) → d ≡ isAreaSize (length area) → not d ≡ false → {table : List ℕ} → Linked table → Searchable table (take areaBytes area)
-next-searchable area d ed w k = record { links = k; long = sym (front-bytes area (area-long area d ed w)) }
+next-searchable area d ed w k = record { links = k; long = sym (front-length areaBytes area (area-long area d ed w)) }
 
 module _ (t : Trace) (a b : ℕ) (area : List ℕ) (d : Bool) (ed : d ≡ isAreaSize (length area)) where
   pub next-refused : not d ≡ true → (Refused AreaShort, area) ≡ nextIn none t a b area

@@ -8,6 +8,7 @@ use mathlib.Core.List.{List, _++_}
 use lib.ListN.{length, take, drop, replicate, length-replicate}
 use borrow.Author.Tests.{not-true, not-false, le-ltb, lt-ltb}
 use Rattle.model.specs.Trace.{Trace}
+use Rattle.model.proofs.Lists.{front-length}
 use Rattle.decision.specs.Decision.{witness, isConflicting}
 use Rattle.limits.specs.Limits.{areaBytes, isAreaSize}
 use Rattle.limits.specs.declared.Refusal.the-variants.{ListShort, NotConflicting, AreaShort}
@@ -23,10 +24,6 @@ use Rattle.verdicts.specs.declared.Finding.the-variants.{Refused, Report
 use lib.Seq.{length-take-le}
 use Rattle.limits.proofs.LimitLaws.{area-true}
 use Rattle.bits.specs.Marks.{Clear}
-
--- its front has just the bytes that are needed
-pub front-bytes : (area : List ℕ) → areaBytes ≤ length area → areaBytes ≡ length (take areaBytes area)
-front-bytes area h = sym (length-take-le areaBytes area h)
 
 pub area-long : (area : List ℕ) (b : Bool) → b ≡ isAreaSize (length area) → not b ≡ false → areaBytes ≤ length area
 area-long area b e w = area-true (length area) (sym e ∙ not-false b w)
@@ -85,7 +82,7 @@ module _ {table : List ℕ} {a b : ℕ} {list : List ℕ} (q : Askable table a b
 
   module _ (w : not d ≡ false) where
     pub pair-decidable : Decidable table a b list (take areaBytes area)
-    pair-decidable = record { askable = q; long = sym (front-bytes area (area-long area d ed w)) }
+    pair-decidable = record { askable = q; long = sym (front-length areaBytes area (area-long area d ed w)) }
 
     pub pair-decided : (list′ part : List ℕ) (r : Finding) → Decides (witness (trace table) a b) list list′ (take areaBytes area) part r
         → (r, list′, part ++ drop areaBytes area) ≡ verdictIn none (trace table) a b list area

@@ -12,7 +12,7 @@ use Rattle.model.proofs.Tests.{by-cases}
 use Rattle.limits.specs.Limits.{eventBytes, trailerBytes}
 use Rattle.format.specs.Bytes.{byte, eventAt, eventsFrom, traceOf}
 use Rattle.format.specs.Layout.{distance, count, start, preamble, eventPart, events, trailer, Layout}
-use Rattle.format.proofs.PartLaws.{layout-parts}
+use Rattle.format.proofs.PartLaws.{layout-parts, byte-of}
 use Rattle.writing.specs.Written.{writtenEvent, writtenEvents, writtenTrailer, written}
 use Rattle.writing.specs.RoundTrip.{AllBytes, Plain}
 use Rattle.writing.proofs.ListLaws.{event-length}
@@ -100,23 +100,19 @@ module _ (z : ℕ) (s : List ℕ) (bytes : AllBytes s) (l : Layout z s) where
 -- ---- the file
 
 module _ (z : ℕ) (h : 4 ≤ z) (s : List ℕ) (bytes : AllBytes s) (l : Layout z s) (plain : Plain z s) where
-  part-byte : (p : ℕ) → p < z * count s → byte (eventPart z s) p ≡ byte s (start s + p)
-  unfolding eventPart
-  part-byte p q = getD-take (z * count s) (drop (start s) s) p 0 q ∙ getD-drop (start s) s p 0
-
   part-bytes : AllBytes (eventPart z s)
   unfolding eventPart
   part-bytes p =
       let n = layout-parts z s l h .of-events in
       by-cases (ltb p (z * count s))
-      (λ e. let a = part-byte p (ltb-true p (z * count s) e) in let b = bytes (start s + p) in omega arith)
+      (λ e. let a = byte-of z s l h p (ltb-true p (z * count s) e) in let b = bytes (start s + p) in omega arith)
       (λ e. let g = ltb-false p (z * count s) e in let a = List·getD-eq-default (eventPart z s) 0 {n = p} (omega arith) in omega arith)
 
   plain-part : (k j : ℕ) → k < count s → 4 ≤ j → j < z → byte (eventPart z s) (0 + z * k + j) ≡ 0
   plain-part k j a b c =
       let m : z * suc k ≤ z * count s = mul-le-mul-left z (omega arith) in
       let n = mul-suc z k in
-      part-byte (0 + z * k + j) (omega arith) ∙ ap (byte s) (omega arith) ∙ plain k j a b c
+      byte-of z s l h (0 + z * k + j) (omega arith) ∙ ap (byte s) (omega arith) ∙ plain k j a b c
 
   part-again : writtenEvents z (events z s) ≡ eventPart z s
   unfolding events traceOf

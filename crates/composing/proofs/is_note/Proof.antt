@@ -1,4 +1,5 @@
-use Rattle.composing.proofs.LineLaws.{part-length, note-short, note-word, note-read}
+use Rattle.model.proofs.Lists.{front-length}
+use Rattle.composing.proofs.LineLaws.{note-short, note-word, note-read}
 use borrow.Author.Needs.{needs}
 use Rattle.composing.proofs.is_note.Statement.{statement}
 use Rattle.composing.proofs.is_note.Tie as tie
@@ -8,7 +9,7 @@ is-note-spec =
     tie.close
     (tie.spec
     (λ c. search (note-short, needs))
-    (λ c. search (part-length, needs))
+    (λ c. search (front-length, needs))
     (λ c. search needs)
     (λ c κs. search needs)
     (λ c. search (note-word, needs))

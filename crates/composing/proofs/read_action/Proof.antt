@@ -1,4 +1,5 @@
-use Rattle.composing.proofs.LineLaws.{part-length, action-short, action-kind, action-number, action-good}
+use Rattle.model.proofs.Lists.{front-length}
+use Rattle.composing.proofs.LineLaws.{action-short, action-kind, action-number, action-good}
 use borrow.Author.Needs.{needs}
 use Rattle.composing.proofs.read_action.Statement.{statement}
 use Rattle.composing.proofs.read_action.Tie as tie
@@ -9,7 +10,7 @@ read-action-spec =
     (tie.spec
     (λ c κs. search needs)
     (λ c. search (action-short, needs))
-    (λ c. search (part-length, needs))
+    (λ c. search (front-length, needs))
     (λ c κs. search needs)
     (λ c. search (action-kind, needs))
     (λ c. search needs)

@@ -1,4 +1,5 @@
-use Rattle.composing.proofs.LineLaws.{part-length, event-short, event-number, event-large, event-read}
+use Rattle.model.proofs.Lists.{front-length}
+use Rattle.composing.proofs.LineLaws.{event-short, event-number, event-large, event-read}
 use borrow.Author.Needs.{needs}
 use Rattle.composing.proofs.read_event.Statement.{statement}
 use Rattle.composing.proofs.read_event.Tie as tie
@@ -9,7 +10,7 @@ read-event-spec =
     (tie.spec
     (λ c κs. search needs)
     (λ c. search (event-short, needs))
-    (λ c. search (part-length, needs))
+    (λ c. search (front-length, needs))
     (λ c κs. search needs)
     (λ c. search needs)
     (λ c. search needs)

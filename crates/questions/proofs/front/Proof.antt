@@ -1,4 +1,4 @@
-use Rattle.questions.proofs.NoteLaws.{front-length}
+use Rattle.model.proofs.Lists.{front-length}
 use borrow.Author.Needs.{needs}
 use Rattle.questions.proofs.front.Statement.{statement}
 use Rattle.questions.proofs.front.Tie as tie

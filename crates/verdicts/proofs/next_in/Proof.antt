@@ -1,5 +1,6 @@
+use Rattle.model.proofs.Lists.{front-length}
 use borrow.Author.Needs.{needs}
-use Rattle.verdicts.proofs.VerdictLaws.{area-long, front-bytes}
+use Rattle.verdicts.proofs.VerdictLaws.{area-long}
 use Rattle.verdicts.proofs.NextLaws.{next-refused, next-searchable, next-found}
 use Rattle.verdicts.proofs.next_in.Statement.{statement}
 use Rattle.verdicts.proofs.next_in.Tie as tie
@@ -11,7 +12,7 @@ next-in-spec =
     (λ c κs. search needs)
     (λ c. search (next-refused, needs))
     (λ c. search (area-long, needs))
-    (λ c. search (front-bytes, area-long, needs))
+    (λ c. search (front-length, area-long, needs))
     (λ c κs. search (next-searchable, needs))
     (λ c. search needs)
     (λ c. search (next-found, needs)))

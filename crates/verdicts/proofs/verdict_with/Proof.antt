@@ -1,5 +1,6 @@
+use Rattle.model.proofs.Lists.{front-length}
 use borrow.Author.Needs.{needs}
-use Rattle.verdicts.proofs.VerdictLaws.{area-long, front-bytes, area-refused, pair-decidable, pair-decided}
+use Rattle.verdicts.proofs.VerdictLaws.{area-long, area-refused, pair-decidable, pair-decided}
 use Rattle.verdicts.proofs.verdict_with.Statement.{statement}
 use Rattle.verdicts.proofs.verdict_with.Tie as tie
 
@@ -10,7 +11,7 @@ verdict-with-spec =
     (λ c κs. search needs)
     (λ c. search (area-refused, needs))
     (λ c. search (area-long, needs))
-    (λ c. search (front-bytes, area-long, needs))
+    (λ c. search (front-length, area-long, needs))
     (λ c κs. search (pair-decidable, needs))
     (λ c. search needs)
     (λ c. search needs)
