@@ -13,7 +13,7 @@ use Rattle.model.specs.Observed.{lastWrite}
 use Rattle.model.specs.Good.{Good, maxThread, maxObject, holder, Free}
 use Rattle.model.specs.Reordering.{Step, Next}
 use Rattle.model.specs.Sections.{isLast}
-use Rattle.model.proofs.Tests.{by-cases, true-just, false-just, true-does, false-does, does-true, false-test, test-false}
+use Rattle.model.proofs.Tests.{by-cases, true-just, false-just, true-does, false-does, false-test, test-false, not-on}
 use Rattle.model.proofs.Histories.{Legal, of-legal, to-legal, beginning}
 use Rattle.decision.proofs.CheckExact.{clean-step, next-true, true-next, valid-true, true-valid, seen-true, true-seen, free-true, true-free}
 use Rattle.model.proofs.SectionsExact.{last-releases, release-by-holder, release-frees}
@@ -82,7 +82,7 @@ module _ (t : Trace) (k : ℕ) (last writes locks : List ℕ) (c : ℕ) (ec : c 
   Holders h l = Entries (λ y. holder t y h) maxObject l
 
   other-object : (g y : ℕ) → y ≢ x → does t g y k ≡ false
-  other-object g y ne = false-test (does-true t g y k) (λ p. ne (sym (p .1) ∙ sym ex))
+  other-object g y ne = not-on t g y k (λ e. ne (e ∙ sym ex))
 
   other-kind : (g y : ℕ) → d ≢ g → does t g y k ≡ false
   other-kind g y ne = false-does t g y k (λ e. ne (ed ∙ e))

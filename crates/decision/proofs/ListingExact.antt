@@ -17,7 +17,7 @@ use Rattle.decision.specs.Decision.{witness, isAccess, isConflicting, ra
 use Rattle.model.proofs.Tests.{by-cases, both, either-true, true-either}
 use Rattle.model.proofs.Lists.{numbers-mem, increasing-numbers}
 use Rattle.model.proofs.Threads.{conflicting-apart}
-use Rattle.decision.proofs.OrderExact.{first-exactly, none-exactly}
+use Rattle.decision.proofs.OrderExact.{first-after-exactly, none-after-exactly}
 use Rattle.decision.proofs.CheckExact.{valid-true, true-valid}
 use Rattle.decision.proofs.SearchExact.{search-exactly, search-none}
 
@@ -205,9 +205,9 @@ module _ (t : Trace) (w : WellFormed t) (a b : ℕ) where
   -- the answer is the first race after (a, b)
   pub next-exactly : (x : Race) → (nextRace t a b ≡ some x) ↔ FirstAfter pairOf (RaceOf t) (pair a b) x
   unfolding nextRace
-  next-exactly x = first-exactly pairOf (pair a b) (races-listing t w) x
+  next-exactly x = first-after-exactly pairOf (pair a b) (races-listing t w) x
 
   -- and none exactly where there is none
   pub next-none : (nextRace t a b ≡ none) ↔ ((x : Race) → RaceOf t x → ¬ After (pair a b) (pairOf x))
   unfolding nextRace
-  next-none = none-exactly pairOf (pair a b) (races-listing t w)
+  next-none = none-after-exactly pairOf (pair a b) (races-listing t w)

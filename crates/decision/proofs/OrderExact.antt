@@ -44,7 +44,7 @@ not-both (a ∷ x) (b ∷ y) f g =
 pub not-itself : (x : List ℕ) → ¬ After x x
 not-itself x f = not-both x x f f
 
--- of two numbers the last decides where the first are the same
+-- behind the last number nothing is left to compare
 pub by-last : {b d : ℕ} → (b < d) ⊎ ((b ≡ d) × ⊥) → b < d
 by-last c = ⊎-elim (λ p. p) (λ p. absurd (p .1)) c
 
@@ -87,8 +87,8 @@ module _ {A : Type 0} (of : A → List ℕ) (k : List ℕ) where
     none-is e x r = first-none l e x (is .members x .1 r)
 
     -- the first of the listing is the first answer after k
-    pub first-exactly : (x : A) → (firstAfter of k l ≡ some x) ↔ FirstAfter of Is k x
-    first-exactly x = (first-is x, (λ f. go f (firstAfter of k l) refl))
+    pub first-after-exactly : (x : A) → (firstAfter of k l ≡ some x) ↔ FirstAfter of Is k x
+    first-after-exactly x = (first-is x, (λ f. go f (firstAfter of k l) refl))
       where
         go : FirstAfter of Is k x → (o : Option A) → firstAfter of k l ≡ o → firstAfter of k l ≡ some x
         go f none e = absurd (none-is e x (f .answer) (f .later))
@@ -99,8 +99,8 @@ module _ {A : Type 0} (of : A → List ℕ) (k : List ℕ) where
             e ∙ ap some q
 
     -- and there is none exactly where no answer comes after k
-    pub none-exactly : (firstAfter of k l ≡ none) ↔ ((x : A) → Is x → ¬ After k (of x))
-    none-exactly = (none-is, (λ f. go f (firstAfter of k l) refl))
+    pub none-after-exactly : (firstAfter of k l ≡ none) ↔ ((x : A) → Is x → ¬ After k (of x))
+    none-after-exactly = (none-is, (λ f. go f (firstAfter of k l) refl))
       where
         go : ((x : A) → Is x → ¬ After k (of x)) → (o : Option A) → firstAfter of k l ≡ o → firstAfter of k l ≡ none
         go f none e = e
@@ -109,7 +109,7 @@ module _ {A : Type 0} (of : A → List ℕ) (k : List ℕ) where
 -- ---- those from it on
 
 module _ {A : Type 0} (of : A → List ℕ) where
-  -- all of them
+  -- where all come after k, all are left
   pub all-after : (k : List ℕ) (l : List A) → ((y : A) → List·Memᴰ y l → After k (of y)) → restAfter of k l ≡ l
   all-after k [] f = refl
   all-after k (x ∷ l) f = rw (true-after k (of x) (f x (List·Memᴰ·head refl)))

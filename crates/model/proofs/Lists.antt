@@ -24,13 +24,13 @@ module _ (p : ℕ → Bool) where
       let ih : k ∈ keep p l → (k ∈ j ∷ l) × (p k ≡ true) = λ n. (List·Memᴰ·tail (mem-keep k l n .0), mem-keep k l n .1) in
       by-cases (p j) (λ e. in-cons (rw e at m) (λ q. (List·Memᴰ·head q, rw q e)) ih) (λ e. ih (rw e at m))
 
-  put-tail : (k j : ℕ) (b : Bool) (l : List ℕ) → k ∈ l → k ∈ consIf b j l
-  put-tail k j true l m = List·Memᴰ·tail m
-  put-tail k j false l m = m
+  tail-if : (k j : ℕ) (b : Bool) (l : List ℕ) → k ∈ l → k ∈ consIf b j l
+  tail-if k j true l m = List·Memᴰ·tail m
+  tail-if k j false l m = m
 
   pub keep-mem : {k : ℕ} {l : List ℕ} → k ∈ l → p k ≡ true → k ∈ keep p l
   keep-mem {k} (List·Memᴰ·head {x = j} {xs = l} q) e = let f : p j ≡ true = rw (← q) e in rw f (List·Memᴰ·head q)
-  keep-mem {k} (List·Memᴰ·tail {x = j} {xs = l} m) e = put-tail k j (p j) (keep p l) (keep-mem m e)
+  keep-mem {k} (List·Memᴰ·tail {x = j} {xs = l} m) e = tail-if k j (p j) (keep p l) (keep-mem m e)
 
   pub any-mem : {k : ℕ} {l : List ℕ} → k ∈ l → p k ≡ true → anyIn p l ≡ true
   any-mem {k} (List·Memᴰ·head {x = j} {xs = l} q) e = let f : p j ≡ true = rw (← q) e in rw f

@@ -9,7 +9,7 @@ use Rattle.model.specs.Race.{Conflicting, Witness}
 
 -- ---- answers with some numbers each, as a race has two events
 
--- of two lists of as many numbers the second comes after the first: by the first number, then by the second, and so on
+-- of two lists of one length the second comes after the first: by the first number, then by the second, and so on
 abbrev pub After : List ℕ → List ℕ → Type 0
 After [] y = ⊥
 After (a ∷ x) [] = ⊥

@@ -9,11 +9,12 @@ use mathlib.Core.List.{List, _∷_}
 use lib.ListN.{set, replicate, length}
 use borrow.Author.Tests.{eq-eqb, ne-eqb, eqb-true, lt-ltb, le-ltb}
 use Rattle.model.specs.Trace.{Trace, Valid, acquire, release, threadOf, kindOf, objectOf}
-use Rattle.model.specs.Lists.{before, nearest, just, upTo}
+use Rattle.model.specs.Lists.{before, nearest, upTo}
 use Rattle.model.specs.Good.{Good, maxThread, maxObject, depth, holder, WellFormed}
 use Rattle.model.specs.Sections.{isLast, isOutermost}
 use Rattle.model.proofs.Tests.{true-just, false-just, false-does, by-cases, not-on}
 use Rattle.table.specs.Entries.{Entries}
+use Rattle.table.specs.Links.{lastOf}
 use Rattle.table.proofs.EntryLaws.{entries-new, entries-same, entries-put}
 use Rattle.opening.specs.Knows.{LastEvents, Depths, NextEnds, lastOn, nextEnd}
 use lib.Dec.{eqb, ltb}
@@ -100,7 +101,7 @@ module _ {t : Trace} {k : ℕ} (g : Good t) (v : Valid t k) where
   pub events-step : {l : List ℕ} → LastEvents t k l → LastEvents t (k + 1) (set l (threadOf t k) k)
   events-step p =
       let c = threadOf t k in
-      known-next (λ x h. nearest (λ j. just x (threadOf t j)) h)
+      known-next (λ x h. lastOf t h x)
       (entries-put p _ c k (g .thread-limit k v) (rw (true-just c c refl)) (λ d ne. rw (false-just d c (λ q. ne (sym q)))))
 
   module _ {l : List ℕ} (p : Depths t k l) where

@@ -4,16 +4,17 @@ use mathlib.Core.Bool.{Bool, cond, _&&_}
 use mathlib.Core.List.{List}
 use lib.ListN.{set}
 use lib.Dec.{eqb, ltb}
-use Rattle.model.specs.Trace.{Trace, write, threadOf, kindOf, objectOf}
-use Rattle.model.specs.Lists.{before, numbers, nearest, just}
+use Rattle.model.specs.Trace.{Trace, write, kindOf, objectOf}
+use Rattle.model.specs.Lists.{before, numbers, nearest}
 use Rattle.model.specs.Observed.{lastWrite}
 use Rattle.model.specs.Good.{maxThread, maxObject, depth}
 use Rattle.model.specs.Sections.{isLast}
+use Rattle.table.specs.Links.{lastOf}
 use Rattle.table.specs.Entries.{Entries}
 
 -- before event k the list has every thread's last event so far; 0 where there is none
 abbrev pub LastEvents : Trace → ℕ → List ℕ → Type 0
-LastEvents t k list = Entries (λ c. nearest (λ j. just c (threadOf t j)) (before k)) maxThread list
+LastEvents t k list = Entries (lastOf t (before k)) maxThread list
 
 -- before event k, that is after the one before it, the list has every cell's last write so far; 0 where there is none
 abbrev pub LastWrites : Trace → ℕ → List ℕ → Type 0

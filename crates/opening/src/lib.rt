@@ -1,4 +1,4 @@
-// From a file's bytes to its table, or its refusal: what every question does first. The table is filled in place, one pass over the events for each
+// From a file's bytes to its table, or its refusal: what every question but the note does first. The table is filled in place, one pass over the events for each
 // column. The first two are the events' own, from the bytes; every further pass reads the table alone.
 use format::File;
 use limits::Event;

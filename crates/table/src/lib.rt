@@ -1,4 +1,4 @@
-// A judged recording as one table: a row of words for each event, its own and its links. No other crate knows the layout.
+// A judged recording as one table: a row of words for each event, its own and its links. Only this crate knows the layout, and `opening`, which fills it.
 use limits::Event;
 use limits::Recording;
 ghost use mathlib.Core.Path.{_≡_};
