@@ -18,7 +18,7 @@ use text::one;
 use text::refused;
 use text::word;
 
-// What each entry of a lent list and each byte of a work area hold beforehand.
+// What each entry of a lent list, and each byte of a work area or a buffer, hold beforehand.
 pub const ENTRY: u16 = 9999;
 
 const BYTE: u8 = 170;

@@ -1,4 +1,5 @@
 // Hands the preamble and the events of a line to the writer, and says what it answers and what it leaves of the buffer.
+use crate::BYTE;
 use limits::Event;
 use text::at_most;
 use text::bytes_with;
@@ -8,9 +9,6 @@ use text::word;
 use writing::Written;
 ghost use Prim.Native.Nat.{_≤_, _<_};
 ghost use lib.ListN.{length};
-
-// What each byte of the lent buffer holds beforehand.
-const BYTE: u8 = 170;
 
 // The most bytes of a preamble, events and bytes of a buffer that the writer is handed.
 const PREAMBLE: usize = 8000;
