@@ -1,5 +1,5 @@
 -- What is written is answered for as it was handed in, and what is read is written again.
-use Prim.Native.Nat.{ℕ}
+use Prim.Native.Nat.{ℕ, _≤_}
 use native.Mathlib.Omega.{arith}
 use mathlib.Core.Path.{_≡_, refl, sym, _∙_, ap}
 use mathlib.Core.Logic.{_≢_}
@@ -9,7 +9,7 @@ use lib.ListN.{length, take}
 use Rattle.model.specs.Trace.{Trace, threadList, kindList, objectList}
 use Rattle.model.specs.Lists.{inFront}
 use Rattle.model.proofs.Lists.{front-taken}
-use Rattle.limits.specs.Limits.{eventBytes}
+use Rattle.limits.specs.Limits.{eventBytes, maxBytes}
 use Rattle.model.specs.Rows.{Quiet}
 use Rattle.model.proofs.RowsExact.{quiet-both, both-quiet}
 use Rattle.limits.specs.Refusals.{refuses, answers}
@@ -22,7 +22,7 @@ use Rattle.writing.specs.Written.{traceFrom, fileWith}
 use Rattle.writing.proofs.ListLaws.{lists-back, lists-even}
 use Rattle.writing.proofs.ReadsBack.{reads-back}
 use Rattle.writing.proofs.WritesAgain.{writes-again, plain-today}
-use Rattle.writing.specs.Writing.{fileFrom, wrote, writerRows, Writes}
+use Rattle.writing.specs.Writing.{fileFrom, wrote, writerRows, Writes, answerWrite}
 use Rattle.writing.proofs.WriteLaws.{refused-no-bytes}
 use Rattle.writing.proofs.WrittenExact.{write-exactly}
 use Rattle.writing.specs.declared.Written.{Written}
@@ -61,6 +61,19 @@ module _ (p cs ds xs buffer : List ℕ) (n : ℕ) (after : List ℕ) where
       let b : inFront s buffer ≡ after = ap (λ (x : Written × List ℕ). x .1) w in
       let d : take n after ≡ s = rw (← a, ← b) (front-taken s buffer) in
       rw d (answers-for p (traceFrom cs ds xs) g)
+
+  few-bytes : {w : Written × List ℕ} → Writes p cs ds xs buffer w → w ≡ (Bytes n, after) → n ≤ maxBytes
+  few-bytes (refuses {r} f) e = absurd (refused-no-bytes r n (ap (λ (x : Written × List ℕ). x .0) e))
+  few-bytes (answers q f) e =
+      let s = fileFrom p cs ds xs in
+      let k = quiet-file s .0 (both-quiet (rowsOfFile s) _ (q .1) .0) .layout .sized .most in
+      let c : Bytes (length s) ≡ Bytes n = ap (λ (x : Written × List ℕ). x .0) (f ∙ e) in
+      let a : length s ≡ n = cc in
+      omega arith
+
+  -- what is written is no longer than a file may be
+  pub written-short : (Bytes n, after) ≡ answerWrite p cs ds xs buffer → n ≤ maxBytes
+  written-short e = few-bytes (write-exactly p cs ds xs buffer (Bytes n, after) .0 (sym e)) refl
 
 -- the first round trip
 pub what-is-written : WhatIsWritten

@@ -7,9 +7,11 @@ use mathlib.Core.List.{List, []}
 use lib.ListN.{length, take}
 use lib.Dec.{eqb}
 use denote.Ref.{RefT}
-use Rattle.format.specs.Layout.{preamble}
+use Rattle.format.specs.Layout.{start, preamble}
 use Rattle.limits.specs.Refusals.{Asked, settled}
 use Rattle.judging.specs.Judged.{refusalOf, rowsOfFile}
+use Rattle.questions.specs.declared.Noted.{Noted}
+use Rattle.questions.specs.declared.Noted.the-variants.{InFile, Operators}
 
 -- a lent slice of bytes: where it begins in memory (ptr), and its bytes (now)
 abbrev pub Slice : Type 0
@@ -40,9 +42,19 @@ pub data NoteOf (file operator : Slice) : Part → Type 0 where
 abbrev pub Notes : Slice → Slice → Part → Type 0
 Notes file operator p = Asked (rowsOfFile (file .now)) (λ r. front 0 file) (NoteOf file operator) p
 
--- computed
-abbrev pub noteOf : Slice → Slice → Part
-noteOf file operator = cond (eqb (length (preamble (file .now))) 0) (whole operator) (ownNote file)
+-- ---- computed
+
+-- the part at which a note stands
+abbrev pub standing : Slice → Slice → Noted → Part
+standing file operator (InFile m) = front m file
+standing file operator Operators = whole operator
+
+-- where the note of a good file with these bytes stands
+abbrev pub notedIn : List ℕ → Noted
+notedIn s = cond (eqb (length (preamble s)) 0) Operators (InFile (start s))
+
+unfoldable pub answerNoted : List ℕ → Noted
+answerNoted s = settled (λ r. InFile 0) (notedIn s) (refusalOf s)
 
 unfoldable pub answerNote : Slice → Slice → Part
-answerNote file operator = settled (λ r. front 0 file) (noteOf file operator) (refusalOf (file .now))
+answerNote file operator = standing file operator (answerNoted (file .now))

@@ -17,7 +17,7 @@ ghost use lib.ListN.{length};
 ghost use Rattle.questions.specs.Answers.{answerJudge, answerObserved};
 ghost use Rattle.questions.specs.Observations.{answerObservations};
 ghost use Rattle.questions.specs.Verdicts.{answerVerdict, answerNext, answerCheck};
-ghost use Rattle.questions.specs.Note.{whole, front, answerNote};
+ghost use Rattle.questions.specs.Note.{whole, front, answerNoted, answerNote};
 
 // The answer to question 1.
 pub enum Judgement {
@@ -102,19 +102,34 @@ fn front<'a>(s: &'a [u8], m: usize) -> &'a [u8]
     &s[..m]
 }
 
+// Where the note of question 6 stands: it is the first so many bytes of the file, none for a refused one; or the operator's own.
+pub enum Noted {
+    InFile(usize),
+    Operators,
+}
+
+// Question 6, by where the note stands.
+pub fn note_stands(file: &[u8]) -> Noted
+    ensures { λ r. ⌜ r ≡ answerNoted (now (file .entry)) ⌝ }
+{
+    match judging::judge(file) {
+        File::Refused(_) => Noted::InFile(0),
+        File::Good(t) => {
+            let start = t.start;
+            if start == 0 {
+                return Noted::Operators;
+            }
+            Noted::InFile(start)
+        }
+    }
+}
+
 // Question 6: the preamble, or the operator's own note where that is empty; for a refused file the empty part at its front.
 pub fn note<'a>(file: &'a [u8], operator: &'a [u8]) -> &'a [u8]
     ensures { λ r. ⌜ whole r ≡ answerNote (file .entry) (operator .entry) ⌝ }
 {
-    match judging::judge(file) {
-        File::Refused(_) => front(file, 0),
-        File::Good(t) => {
-            let start = t.start;
-            if start == 0 {
-                operator
-            } else {
-                front(file, start)
-            }
-        }
+    match note_stands(file) {
+        Noted::InFile(m) => front(file, m),
+        Noted::Operators => operator,
     }
 }

@@ -1,4 +1,4 @@
-use Rattle.questions.proofs.NoteLaws.{preamble-within, refused-note, operators-note, preamble-note}
+use Rattle.questions.proofs.NoteLaws.{note-within, file-note, operators-note}
 use borrow.Author.Needs.{needs}
 use Rattle.questions.proofs.note.Statement.{statement}
 use Rattle.questions.proofs.note.Tie as tie
@@ -9,9 +9,7 @@ note-spec =
     (tie.spec
     (λ c κs. search needs)
     (λ c. search needs)
-    (λ c κs. search needs)
+    (λ c κs. search (note-within, needs))
     (λ c. search needs)
-    (λ c κs. search (preamble-within, needs))
-    (λ c. search refused-note)
-    (λ c. search operators-note)
-    (λ c. search (preamble-note, needs)))
+    (λ c. search file-note)
+    (λ c. search operators-note))

@@ -1,2 +1,0 @@
--- The ways through the count
-pub mod CountedLaws

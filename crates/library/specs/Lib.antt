@@ -1,2 +1,0 @@
--- What the static library gives to other languages.
-pub mod Counted

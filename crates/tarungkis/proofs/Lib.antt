@@ -1,0 +1,2 @@
+-- The ways through the functions that other languages call
+pub mod CallLaws
