@@ -3,38 +3,35 @@
 
 mod plain;
 mod recordings;
+#[path = "../bindings/tarungkis.rs"]
+mod tarungkis;
 
 use recordings::Family;
 use std::hint::black_box;
 use std::time::{Duration, Instant};
+use tarungkis::Place;
 
 const SEEDS: u64 = 3;
 const RUNS: usize = 5;
 /// How often question 2 is answered in a run: once takes microseconds.
 const TIMES: u32 = 1000;
 
-extern "C" {
-    /// The report in the front of `out`, and its length; 0 where there may be too little room.
-    fn tarungkis_report(file: *const u8, bytes: usize, out: *mut u8, room: usize) -> usize;
-    /// Question 2's answers for all events in the front of `list`, and how many entries they are; 0 for a refusal.
-    fn tarungkis_observed_writes(
-        file: *const u8,
-        bytes: usize,
-        list: *mut u16,
-        entries: usize,
-    ) -> usize;
-}
-
+/// The report by the library, block by block, each behind the one before; how many bytes it has.
 fn proved(file: &[u8], out: &mut [u8]) -> usize {
-    // SAFETY: both slices are lent for the call, which keeps neither; it writes within `out` only.
-    let n = unsafe { tarungkis_report(file.as_ptr(), file.len(), out.as_mut_ptr(), out.len()) };
-    assert!(n > 0, "room for the report");
-    n
+    let mut place = Place::default();
+    let mut n = 0;
+    loop {
+        let lines = tarungkis::report(file, &mut place, &mut out[n..]).len();
+        if lines == 0 {
+            return n;
+        }
+        n += lines;
+    }
 }
 
 fn proved_observed_writes(file: &[u8], list: &mut [u16]) -> usize {
-    // SAFETY: both slices are lent for the call, which keeps neither; it writes within `list` only.
-    unsafe { tarungkis_observed_writes(file.as_ptr(), file.len(), list.as_mut_ptr(), list.len()) }
+    let entries = tarungkis::observed_writes(file, list);
+    entries.expect("a good recording").len()
 }
 
 /// The least time of several runs.

@@ -64,8 +64,14 @@ fn write(dir: &Path) {
         let text = samples::text(&bytes);
         put(dir, &format!("samples/{name}.txt"), text.as_bytes());
     }
+    let composed = samples::composed();
     put(dir, "crates/compose/stdin", samples::COMPOSED.as_bytes());
-    put(dir, "crates/compose/stdout", &samples::composed());
+    put(dir, "crates/compose/stdout", &composed);
+    put(dir, "crates/show/stdin", &composed);
+    put(dir, "crates/show/stdout", samples::shown().as_bytes());
+    let (asked, answer) = samples::asked();
+    put(dir, "crates/ask/stdin", &asked);
+    put(dir, "crates/ask/stdout", answer.as_bytes());
     let long = samples::long_report();
     let report = samples::report(&long);
     assert!(

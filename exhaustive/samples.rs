@@ -89,32 +89,57 @@ pub fn text(bytes: &[u8]) -> String {
     text
 }
 
-/// A text with every kind of event and a preamble of three lines, the second of them empty.
+/// A text with every kind of event, a preamble of three lines, the second of them empty, and
+/// comments before, between and behind them.
 pub const COMPOSED: &str = "\
+# stand 4
 note stand 4, night 13 ~ both arms
 note \n\
+#note not this one
 note begun late!
 0 write 7
 0 acquire 255
 0 read 42
+#
 0 release 255
 15 acquire 255
 15 read 42
+# 0 write 0
 15 release 255
 3 write 128
 15 write 7
 0 read 128
 3 read 0
+# any byte may follow: \t\r\x7F\u{FF}
 ";
 
 /// The file that the text above names.
 pub fn composed() -> Vec<u8> {
     let recording = read_text(COMPOSED);
-    assert_eq!(text_of(&recording), COMPOSED);
     let handed = Handed::of(&recording);
     let mut bytes = vec![0; handed.file_length()];
     assert_eq!(write_file(&handed, &mut bytes), Ok(bytes.len()));
     bytes
+}
+
+/// The text of that file: the same without its comments.
+pub fn shown() -> String {
+    let plain = COMPOSED.lines().filter(|line| !line.starts_with('#'));
+    let plain: String = plain.map(|line| format!("{line}\n")).collect();
+    assert_eq!(text_of(&read_text(&plain)), plain);
+    assert_eq!(text_of(&read_text(COMPOSED)), plain);
+    plain
+}
+
+/// Question 3 of the first race of the sample `night`, as the program `ask` reads it, and its line.
+pub fn asked() -> (Vec<u8>, String) {
+    let bytes = file(b"night 12, stand-in run", &night());
+    let report = report(&bytes);
+    let line = report.lines().nth(1).expect("a race");
+    let words: Vec<&str> = line.split(' ').collect();
+    let mut asked = format!("3 {} {}\n", words[1], words[2]).into_bytes();
+    asked.extend(bytes);
+    (asked, format!("{line}\n"))
 }
 
 const KEEPER: u8 = 0;

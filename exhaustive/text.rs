@@ -1,5 +1,6 @@
 //! The text of a recording: lines `note TEXT`, whose texts joined by byte 0A are the preamble, then
-//! a line an event, such as `0 write 7`. Each line ends with byte 0A.
+//! a line an event, such as `0 write 7`. Each line ends with byte 0A. A line that begins with `#` is
+//! a comment.
 
 use crate::recording::{Event, Kind, Recording};
 
@@ -30,7 +31,8 @@ pub fn text_of(recording: &Recording) -> String {
 
 /// The recording that a well-made text names.
 pub fn read_text(text: &str) -> Recording {
-    let lines: Vec<&str> = text.strip_suffix('\n').unwrap_or("").split('\n').collect();
+    let lines = text.strip_suffix('\n').unwrap_or("").split('\n');
+    let lines: Vec<&str> = lines.filter(|line| !line.starts_with('#')).collect();
     let notes = lines.iter().map_while(|line| line.strip_prefix("note "));
     let notes: Vec<&str> = notes.collect();
     let events = lines[notes.len()..].iter().map(|line| read_event(line));
