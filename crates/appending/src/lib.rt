@@ -37,7 +37,7 @@ fn digit(d: u32) -> u8
 }
 
 // A number in decimal: what stands before its last digit is a number again.
-fn put_decimal(out: &mut [u8], at: usize, n: u32) -> usize
+pub fn put_decimal(out: &mut [u8], at: usize, n: u32) -> usize
     requires { ⌜ at + length (decimal n) ≤ length (now out) ⌝ }
     ensures { λ r. ⌜ Appends (decimal n) at (now (out .entry)) (now (out .exit)) r ⌝ }
 {

@@ -1,0 +1,21 @@
+use Rattle.input.proofs.InputLaws.{input-within}
+use borrow.Author.Needs.{needs}
+use Rattle.show.proofs.main.Statement.{statement}
+use Rattle.show.proofs.main.Tie as tie
+
+pub main-spec : {M : Type 1} → statement M
+main-spec =
+    tie.close
+    (tie.spec
+    (λ c. search needs)
+    (λ c κs. search needs)
+    (λ c. search needs)
+    (λ c. search needs)
+    (λ c κs. search needs)
+    (λ c. search needs)
+    (λ c. search needs)
+    (λ c. search needs)
+    (λ c. search (input-within, needs))
+    (λ c κs. search needs)
+    (λ c. search needs)
+    (λ c. search needs))
