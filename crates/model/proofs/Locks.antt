@@ -37,7 +37,7 @@ module _ (t : Trace) (x : ℕ) where
   unfolding Locked
   rest-locked k h l = l .2
 
-  -- nobody holds a lock exactly at depth 0
+  -- a lock has no holder just where its depth is 0
   pub nobody : (h : List ℕ) → Locked t h → (holder t x h ≡ 0) ↔ (depth t x h ≡ 0)
   nobody [] l = ((λ e. refl), (λ e. refl))
   nobody (k ∷ h) l =

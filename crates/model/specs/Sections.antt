@@ -26,7 +26,7 @@ isLast t k = eqb (kindOf t k) release && leb (ownDepth t k) 1
 pub record OwnDepths (t : Trace) (h : List ℕ) : Type 0 where
   -- it is the lock's depth where the thread holds it, and 0 where it does not
   pub own-depth : (c x : ℕ) → depth t x (own t c h) ≡ cond (eqb (holder t x h) (suc c)) (depth t x h) 0
-  -- nobody holds a lock exactly at depth 0
+  -- a lock has no holder just where its depth is 0
   pub unheld : (x : ℕ) → (holder t x h ≡ 0) ↔ (depth t x h ≡ 0)
   -- the next acquire of a thread is an outermost one exactly where its thread does not hold the lock; of these alone is asked that nobody does
   pub outermost : (k : ℕ) → Next t h k → kindOf t k ≡ acquire → (isOutermost t k ≡ true) ↔ (holder t (objectOf t k) h ≢ suc (threadOf t k))
