@@ -3,14 +3,13 @@ use input::Input;
 use libc::STDERR_FILENO;
 use libc::STDOUT_FILENO;
 use limits::Recording;
-use report::Begun;
+use opening::Opened;
 use report::Position;
 use report::Progress;
 ghost use Prim.Native.Nat.{_≤_};
 ghost use lib.ListN.{length};
 ghost use Rattle.report.specs.Rest.{atStart};
-ghost use Rattle.report.specs.Writing.{Writing};
-ghost use Rattle.report.specs.Whole.{Starting};
+ghost use Rattle.report.specs.Writing.{Starting, Writing};
 
 // One byte more than a file may have is enough to refuse it.
 const INPUT_BYTES: usize = Recording::MAX_BYTES + 1;
@@ -29,14 +28,13 @@ fn put(out: &[u8], n: usize) -> bool
     false
 }
 
-// The rest of a good file's report, block by block.
-fn write_blocks(table: &[u16], list: &mut [u16], area: &mut [u8], out: &mut [u8], at: usize)
-    requires { ⌜ Writing (now table) atStart (now list) (now area) at (now out) ⌝ }
+// The report of a good file, block by block.
+fn write_blocks(table: &[u16], list: &mut [u16], area: &mut [u8], out: &mut [u8])
+    requires { ⌜ Writing (now table) atStart (now list) (now area) 0 (now out) ⌝ }
 {
     let mut position = Position::start();
-    let mut bytes = at;
     loop {
-        match report::block(table, position, list, area, out, bytes) {
+        match report::block(table, position, list, area, out) {
             Progress::Ended(n) => {
                 put(out, n);
                 return;
@@ -46,29 +44,30 @@ fn write_blocks(table: &[u16], list: &mut [u16], area: &mut [u8], out: &mut [u8]
                     return;
                 }
                 position = next;
-                bytes = 0;
             }
         }
     }
 }
 
 // The same with a new list and a new work area.
-fn write_races(table: &[u16], out: &mut [u8], at: usize)
-    requires { ⌜ Starting (now table) at (now out) ⌝ }
+fn write_lines(table: &[u16], out: &mut [u8])
+    requires { ⌜ Starting (now table) atStart (now out) ⌝ }
 {
     let mut list = [0u16; Recording::MAX_EVENTS];
     let mut area = [0u8; Recording::AREA_BYTES];
-    write_blocks(table, &mut list, &mut area, out, at);
+    write_blocks(table, &mut list, &mut area, out);
 }
 
+// Judges a file and builds its table once, and writes its report.
 fn write_report(file: &[u8]) {
     let mut rows = [0u16; table::ROOM];
     let mut out = [0u8; BLOCK_BYTES];
-    match report::begin(file, &mut rows, &mut out) {
-        Begun::Refused(n) => {
+    match opening::table_of(file, &mut rows) {
+        Opened::Refused(r) => {
+            let n = lines::refused(&mut out, 0, r);
             put(&out, n);
         }
-        Begun::Good(n, words) => write_races(&rows[..words], &mut out, n),
+        Opened::Words(n) => write_lines(&rows[..n], &mut out),
     }
 }
 

@@ -1,11 +1,11 @@
--- The rest of a report, race by race.
-use Prim.Native.Nat.{ℕ, zero, suc, _+_, _*_, _≤_, _<_}
+-- What is left of a report, line by line.
+use Prim.Native.Nat.{ℕ, zero, suc, _+_, _-_, _*_, _≤_, _<_}
 use native.Mathlib.Omega.{arith}
 use native.Mathlib.Nat.{mul-suc}
 use mathlib.Core.Path.{_≡_, refl, _∙_, ap}
-use mathlib.Core.Logic.{inl}
+use mathlib.Core.Logic.{_≢_, inl}
 use mathlib.Core.Option.{Option, none, some}
-use mathlib.Core.List.{List, [], _∷_, _++_, append-assoc}
+use mathlib.Core.List.{List, [], _∷_, _++_, append-nil}
 use lib.ListN.{length, length-append, length-reverse}
 use Rattle.model.specs.Trace.{Trace}
 use Rattle.model.specs.Lists.{upTo, numbers, pair}
@@ -16,7 +16,13 @@ use Rattle.model.proofs.Tests.{by-cases}
 use Rattle.decision.proofs.OrderExact.{all-after, none-after, first-rest}
 use Rattle.decision.proofs.ListingExact.{races-listing}
 use Rattle.lines.specs.Lines.{raceLine, racesLine}
-use Rattle.report.specs.Rest.{raceLines, racesLeft, lastLine, rest, linesLeft, Stands, atStart}
+use Rattle.decision.specs.Order.{isAfter, restAfter}
+use Rattle.report.specs.Report.{firstLine}
+use Rattle.report.specs.Rest.{Line, fill, atStart, behindFirst, behindRace, racesLeft, racesFrom, linesFrom}
+use Rattle.report.specs.Writing.{Countable}
+use lib.Dec.{ltb}
+use Rattle.lines.specs.Room.{lineBytes}
+use borrow.Author.Tests.{eq-eqb, ne-eqb, lt-ltb, le-ltb}
 use Rattle.report.specs.declared.Position.{Position}
 
 -- ---- how many races there may be
@@ -50,67 +56,85 @@ few-races t h =
     let q = each-few (λ p. raceWith (p .0) (p .1) (witness t (p .0) (p .1))) 1 (λ p. one-race (p .0) (p .1) (witness t (p .0) (p .1))) (conflictingPairs t) in
     omega arith
 
--- ---- what a position has before it
+-- and no more are left at a position
+rest-short : {A : Type 0} (of : A → List ℕ) (k : List ℕ) (l : List A) → length (restAfter of k l) ≤ length l
+rest-short of k [] = omega arith
+rest-short of k (x ∷ l) = let ih = rest-short of k l in by-cases (isAfter k (of x)) (λ e. rw e (omega arith)) (λ e. rw e (omega arith))
 
--- the last line is always left
-pub some-line : (t : Trace) (p : Position) → 0 < linesLeft t p
-unfolding linesLeft
-some-line t p = omega arith
+pub few-left : (t : Trace) → length t ≤ maxEvents → (p : Position) → length (racesLeft t p) ≤ maxEvents * maxEvents
+unfolding racesLeft
+few-left t h p = let r = rest-short pairOf (pair (p .lower) (p .higher)) (races t) in let f = few-races t h in omega arith
 
-pub last-left : (t : Trace) (p : Position) → length (lastLine t) ≤ length (rest t p)
-unfolding rest
-last-left t p = let n = length-append (raceLines (racesLeft t p)) (lastLine t) in omega arith
+pub few-countable : (t : Trace) → length t ≤ maxEvents → (p : Position) → p .count ≤ maxEvents * maxEvents → Countable t p
+unfolding Countable
+few-countable t h p c = let f = few-left t h p in omega arith
+
+-- ---- the next line
+
+module _ (t : Trace) (p : Position) where
+  -- the first line, and those behind it
+  pub from-first : p .next ≡ 0 → linesFrom t p ≡ record { bytes = firstLine t; behind = some (behindFirst p) } ∷ linesFrom t (behindFirst p)
+  unfolding linesFrom racesFrom racesLeft
+  from-first e = rw (eq-eqb (p .next) 0 e)
+
+  pub from-races : p .next ≢ 0 → linesFrom t p ≡ racesFrom t p
+  unfolding linesFrom
+  from-races e = rw (ne-eqb (p .next) 0 e)
+
+  pub first-countable : Countable t p → Countable t (behindFirst p)
+  unfolding Countable racesLeft
+  first-countable c = c
+
+-- ---- lines in a buffer
+
+module _ (room : ℕ) (x : Line) (l : List Line) where
+  -- no further line surely fits
+  pub fill-stops : room - length (x .bytes) < lineBytes → fill room (x ∷ l) ≡ (x .bytes, x .behind)
+  fill-stops h = rw (lt-ltb (room - length (x .bytes)) lineBytes h)
+
+  -- one does
+  pub fill-goes : lineBytes ≤ room - length (x .bytes)
+      → fill room (x ∷ l) ≡ (x .bytes ++ fill (room - length (x .bytes)) l .0, fill (room - length (x .bytes)) l .1)
+  fill-goes h = rw (le-ltb (room - length (x .bytes)) lineBytes h)
+
+-- the last line
+pub fill-last : (room : ℕ) (b : List ℕ) → fill room (record { bytes = b; behind = none } ∷ []) ≡ (b, none)
+fill-last room b =
+    by-cases (ltb (room - length b) lineBytes)
+    (λ e. rw e)
+    (λ e. rw (e, append-nil))
+
+-- ---- race by race
 
 module _ (t : Trace) (w : WellFormed t) where
-  start-left : racesLeft t atStart ≡ races t
+  pub start-left : racesLeft t atStart ≡ races t
   unfolding racesLeft
   start-left = all-after pairOf (pair 0 0) (races t) (λ y m. let v = races-listing t w .members y .0 m .conflicting .first .positive in inl (omega arith))
 
-  -- at the start the rest is all but the first line
-  pub start-rest : rest t atStart ≡ raceLines (races t) ++ racesLine (length (races t))
-  unfolding rest
-  start-rest = rw start-left
-
-  pub start-stands : Stands t atStart
-  unfolding Stands
-  start-stands = rw start-left (omega arith)
-
   module _ (p : Position) where
-    -- no more races: the last line is left
+    -- no more races: the last line
     module _ (e : nextRace t (p .lower) (p .higher) ≡ none) where
       none-left : racesLeft t p ≡ []
       unfolding racesLeft nextRace
       none-left = none-after pairOf (pair (p .lower) (p .higher)) (races t) e
 
-      pub rest-end : rest t p ≡ racesLine (length (races t))
-      unfolding rest
-      rest-end = rw none-left
+      pub from-end : racesFrom t p ≡ record { bytes = racesLine (p .count); behind = none } ∷ []
+      unfolding racesFrom
+      from-end = rw none-left
 
-      pub count-end : Stands t p → p .count ≡ length (races t)
-      unfolding Stands
-      count-end s = let z : p .count + 0 ≡ length (races t) = rw none-left at s in omega arith
-
-    -- a race: its line, and the rest after it
-    module _ (x : Race) (e : nextRace t (p .lower) (p .higher) ≡ some x) (k : ℕ) where
+    -- a race: its line, and those behind it
+    module _ (x : Race) (e : nextRace t (p .lower) (p .higher) ≡ some x) where
       abbrev next-position : Position
-      next-position = record { lower = x .lower; higher = x .higher; count = k }
+      next-position = behindRace x (p .count + 1)
 
-      one-left : racesLeft t p ≡ x ∷ racesLeft t next-position
+      pub one-left : racesLeft t p ≡ x ∷ racesLeft t next-position
       unfolding racesLeft nextRace
       one-left = first-rest pairOf (pair (p .lower) (p .higher)) (races t) (races-listing t w .sorted) x e
 
-      pub rest-race : rest t p ≡ raceLine (x .lower) (x .higher) (x .witness) ++ rest t next-position
-      unfolding rest
-      rest-race = rw (one-left, append-assoc)
+      pub from-race : racesFrom t p ≡ record { bytes = raceLine (x .lower) (x .higher) (x .witness); behind = some next-position } ∷ linesFrom t next-position
+      unfolding racesFrom linesFrom
+      from-race = rw one-left
 
-      pub fewer-lines : linesLeft t next-position < linesLeft t p
-      unfolding linesLeft
-      fewer-lines = let n = ap length one-left in omega arith
-
-      pub stands-next : Stands t p → k ≡ p .count + 1 → Stands t next-position
-      unfolding Stands
-      stands-next s c = let n = ap length one-left in omega arith
-
-      pub count-few : length t ≤ maxEvents → Stands t p → p .count < maxEvents * maxEvents
-      unfolding Stands
-      count-few h s = let n = ap length one-left in let f = few-races t h in omega arith
+      pub race-countable : Countable t p → (p .count + 1 < 4294967296) × Countable t next-position
+      unfolding Countable
+      race-countable c = let n = ap length one-left in (omega arith, omega arith)

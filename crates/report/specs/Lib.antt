@@ -1,5 +1,5 @@
--- The nightly report, a block of lines at a time or whole.
-pub mod Rest
-pub mod Writing
+-- The nightly report, from place to place.
 pub mod Report
-pub mod Whole
+pub mod Rest
+pub mod Places
+pub mod Writing

@@ -1,39 +1,41 @@
-// The nightly report of a file, in a lent buffer: a block of lines at a time, as many as surely fit, or the whole of it.
+// The nightly report of a file, in a lent buffer: as many lines as surely fit, from place to place.
 use limits::Recording;
 use opening::Opened;
 use races::Handed;
-ghost use Prim.Native.Nat.{_≤_};
+ghost use Prim.Native.Nat.{_*_, _≤_};
 ghost use mathlib.Core.Path.{_≡_};
+ghost use mathlib.Core.Bool.{true};
+ghost use Rattle.model.specs.Good.{maxEvents};
 ghost use Rattle.table.specs.Table.{trace, Linked};
 ghost use Rattle.appending.specs.Appended.{Appends};
-ghost use Rattle.lines.specs.Room.{lineBytes, Room};
-ghost use Rattle.report.specs.Rest.{atStart};
-ghost use Rattle.report.specs.Writing.{Writing, Advances, Fills};
+ghost use Rattle.lines.specs.Room.{Room};
 ghost use Rattle.report.specs.Report.{firstLine};
-ghost use Rattle.report.specs.Whole.{Begins, Starting, Finishes, Reports};
+ghost use Rattle.report.specs.Rest.{atStart, racesFrom, linesFrom, linesAt};
+ghost use Rattle.report.specs.Places.{positionOf, isPlace, answerLines};
+ghost use Rattle.report.specs.Writing.{Starting, Writing, placed, Advances, Writes, Fills};
 
 // The room in which every line fits.
 const LINE_BYTES: usize = 4096;
 
-// After the first line: the bytes in use; for a good file also how many words its table has.
-pub enum Begun {
-    Refused(usize),
-    Good(usize, usize),
-}
+// No recording has more races than this: pairs of events.
+const MAX_RACES: u32 = 262144;
 
-// A position in the report of a good file: the two numbers after which its next race comes, and how many races stand before it.
+// A position in the report of a good file: what comes next, 0 for the first line and 1 for a race's or the last; the two numbers after which
+// the next race comes, and how many races stand before it.
 pub struct Position {
+    pub next: u32,
     pub lower: u16,
     pub higher: u16,
     pub count: u32,
 }
 
 impl Position {
-    // In front of the first race.
+    // In front of the first line.
     pub fn start() -> Position
         ensures { λ r. ⌜ r ≡ atStart ⌝ }
     {
         Position {
+            next: 0,
             lower: 0,
             higher: 0,
             count: 0,
@@ -48,33 +50,17 @@ pub enum Progress {
 }
 
 // The first line of a good file's report.
-fn first_line(table: &[u16], out: &mut [u8]) -> usize
-    requires { ⌜ Linked (now table) × Room 0 (now out) ⌝ }
-    ensures { λ r. ⌜ Appends (firstLine (trace (now (table .entry)))) 0 (now (out .entry)) (now (out .exit)) r ⌝ }
-    ensures { λ r. ⌜ r ≤ lineBytes ⌝ }
+fn first_line(table: &[u16], out: &mut [u8], at: usize) -> usize
+    requires { ⌜ Linked (now table) × Room at (now out) ⌝ }
+    ensures { λ r. ⌜ Appends (firstLine (trace (now (table .entry)))) at (now (out .entry)) (now (out .exit)) r ⌝ }
 {
     let events = table::count(table);
     let threads = table::threads(table);
-    lines::events(out, 0, events as u16, threads)
-}
-
-// Judges a file and writes the first line of its report, which is all of a refused one's; the table of a good one is put in the front of the
-// lent area.
-pub fn begin(file: &[u8], rows: &mut [u16; table::ROOM], out: &mut [u8]) -> Begun
-    requires { ⌜ Room 0 (now out) ⌝ }
-    ensures { λ r. ⌜ Begins (now (file .entry)) (now (rows .entry)) (now (rows .exit)) (now (out .entry)) (now (out .exit)) r ⌝ }
-{
-    match opening::table_of(file, rows) {
-        Opened::Refused(r) => Begun::Refused(lines::refused(out, 0, r)),
-        Opened::Words(n) => {
-            let area: &[u16] = rows;
-            Begun::Good(first_line(&area[..n], out), n)
-        }
-    }
+    lines::events(out, at, events as u16, threads)
 }
 
 // The next race's line, or the last line. The race and its witness come from one search.
-fn line(
+fn race_line(
     table: &[u16],
     p: Position,
     list: &mut [u16],
@@ -83,7 +69,7 @@ fn line(
     at: usize,
 ) -> Progress
     requires { ⌜ Writing (now table) p (now list) (now area) at (now out) ⌝ }
-    ensures { λ r. ⌜ Advances (trace (now (table .entry))) p (now (list .entry)) (now (list .exit)) (now (area .entry)) (now (area .exit)) at (now (out .entry)) (now (out .exit)) r ⌝ }
+    ensures { λ r. ⌜ Advances (trace (now (table .entry))) (racesFrom (trace (now (table .entry))) p) (now (list .entry)) (now (list .exit)) (now (area .entry)) (now (area .exit)) at (now (out .entry)) (now (out .exit)) r ⌝ }
 {
     let a = p.lower;
     let b = p.higher;
@@ -99,6 +85,7 @@ fn line(
             Progress::More(
                 bytes,
                 Position {
+                    next: 1,
                     lower,
                     higher,
                     count: count + 1,
@@ -108,8 +95,8 @@ fn line(
     }
 }
 
-// The lines from a position on, as many as surely fit.
-pub fn block(
+// The line that comes next at a position.
+fn line(
     table: &[u16],
     p: Position,
     list: &mut [u16],
@@ -118,10 +105,36 @@ pub fn block(
     at: usize,
 ) -> Progress
     requires { ⌜ Writing (now table) p (now list) (now area) at (now out) ⌝ }
-    ensures { λ r. ⌜ Fills (trace (now (table .entry))) p (now (list .entry)) (now (list .exit)) (now (area .entry)) (now (area .exit)) at (now (out .entry)) (now (out .exit)) r ⌝ }
+    ensures { λ r. ⌜ Advances (trace (now (table .entry))) (linesFrom (trace (now (table .entry))) p) (now (list .entry)) (now (list .exit)) (now (area .entry)) (now (area .exit)) at (now (out .entry)) (now (out .exit)) r ⌝ }
+{
+    if p.next != 0 {
+        return race_line(table, p, list, area, out, at);
+    }
+    let bytes = first_line(table, out, at);
+    Progress::More(
+        bytes,
+        Position {
+            next: 1,
+            lower: p.lower,
+            higher: p.higher,
+            count: p.count,
+        },
+    )
+}
+
+// The lines from a position on, as many as surely fit, in the front of a buffer.
+pub fn block(
+    table: &[u16],
+    p: Position,
+    list: &mut [u16],
+    area: &mut [u8],
+    out: &mut [u8],
+) -> Progress
+    requires { ⌜ Writing (now table) p (now list) (now area) 0 (now out) ⌝ }
+    ensures { λ r. ⌜ Fills (trace (now (table .entry))) p (now (list .entry)) (now (list .exit)) (now (area .entry)) (now (area .exit)) (now (out .entry)) (now (out .exit)) r ⌝ }
 {
     let mut position = p;
-    let mut bytes = at;
+    let mut bytes = 0;
     loop {
         match line(table, position, list, area, out, bytes) {
             Progress::Ended(n) => return Progress::Ended(n),
@@ -136,35 +149,75 @@ pub fn block(
     }
 }
 
-// The rest of a good file's report, behind its first line; 0 where it might not fit.
-fn finish(table: &[u16], out: &mut [u8], at: usize) -> usize
-    requires { ⌜ Starting (now table) at (now out) ⌝ }
-    ensures { λ r. ⌜ Finishes (trace (now (table .entry))) at (now (out .entry)) (now (out .exit)) r ⌝ }
+// The same with a new list and a new work area.
+fn new_block(table: &[u16], p: Position, out: &mut [u8]) -> Progress
+    requires { ⌜ Starting (now table) p (now out) ⌝ }
+    ensures { λ r. ⌜ Writes (linesFrom (trace (now (table .entry))) p) (now (out .entry)) (now (out .exit)) r ⌝ }
 {
     let mut list = [0u16; Recording::MAX_EVENTS];
     let mut area = [0u8; Recording::AREA_BYTES];
-    match block(table, Position::start(), &mut list, &mut area, out, at) {
-        Progress::Ended(n) => n,
-        Progress::More(_, _) => 0,
+    block(table, p, &mut list, &mut area, out)
+}
+
+// The lines of a file's report from a position on, as many as surely fit, in the front of a buffer.
+fn lines_at(file: &[u8], p: Position, out: &mut [u8]) -> Progress
+    requires { ⌜ Room 0 (now out) × (p .count ≤ maxEvents * maxEvents) ⌝ }
+    ensures { λ r. ⌜ Writes (linesAt (now (file .entry)) p) (now (out .entry)) (now (out .exit)) r ⌝ }
+{
+    let mut rows = [0u16; table::ROOM];
+    match opening::table_of(file, &mut rows) {
+        Opened::Refused(r) => Progress::Ended(lines::refused(out, 0, r)),
+        Opened::Words(n) => new_block(&rows[..n], p, out),
     }
 }
 
-// The whole report of a file in the front of a buffer, and its length; 0 where all but its last line and a line's room do not fit.
-#[no_mangle]
-pub extern "C" fn tarungkis_report(file: &[u8], out: &mut [u8]) -> usize
-    ensures { λ r. ⌜ Reports (now (file .entry)) (now (out .entry)) (now (out .exit)) r ⌝ }
+// Do four words say a place in a report?
+fn is_place(place: &[u32; 4]) -> bool
+    ensures { λ r. ⌜ r ≡ isPlace (now (place .entry)) ⌝ }
+{
+    (place[0] <= 1) & (place[1] <= 65535) & (place[2] <= 65535) & (place[3] <= MAX_RACES)
+}
+
+// The position that they say.
+fn position_of(place: &[u32; 4]) -> Position
+    requires { ⌜ isPlace (now place) ≡ true ⌝ }
+    ensures { λ r. ⌜ r ≡ positionOf (now (place .entry)) ⌝ }
+{
+    Position {
+        next: place[0],
+        lower: place[1] as u16,
+        higher: place[2] as u16,
+        count: place[3],
+    }
+}
+
+// The words of where to go on; how many bytes are in use.
+fn put_place(place: &mut [u32; 4], w: Progress) -> usize
+    ensures { λ r. ⌜ (r, now (place .exit)) ≡ placed w ⌝ }
+{
+    match w {
+        Progress::Ended(n) => {
+            *place = [2, 0, 0, 0];
+            n
+        }
+        Progress::More(n, p) => {
+            *place = [p.next, p.lower as u32, p.higher as u32, p.count];
+            n
+        }
+    }
+}
+
+// The next lines of a file's report, as many as surely fit, in the front of a buffer; how many bytes they are. The place says where to go on; all
+// zeros is the start.
+pub fn next_lines(file: &[u8], place: &mut [u32; 4], out: &mut [u8]) -> usize
+    ensures { λ r. ⌜ (r, now (place .exit), now (out .exit)) ≡ answerLines (now (file .entry)) (now (place .entry)) (now (out .entry)) ⌝ }
 {
     if out.len() < LINE_BYTES {
         return 0;
     }
-    let mut rows = [0u16; table::ROOM];
-    match begin(file, &mut rows, out) {
-        Begun::Refused(n) => n,
-        Begun::Good(n, words) => {
-            if out.len() - n < LINE_BYTES {
-                return 0;
-            }
-            finish(&rows[..words], out, n)
-        }
+    if !is_place(place) {
+        return 0;
     }
+    let p = position_of(place);
+    put_place(place, lines_at(file, p, out))
 }

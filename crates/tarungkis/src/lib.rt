@@ -5,6 +5,7 @@ ghost use Rattle.questions.specs.Observations.{answerObservations};
 ghost use Rattle.questions.specs.Verdicts.{answerVerdict, answerNext, answerCheck};
 ghost use Rattle.questions.specs.Note.{answerNoted};
 ghost use Rattle.writing.specs.Writing.{answerWrite};
+ghost use Rattle.report.specs.Places.{answerLines};
 ghost use Rattle.numbers.specs.Numbers.{packed, told, toldTwo};
 ghost use Rattle.numbers.specs.Packed.{ofJudgement, ofObserved, ofObservations, ofFinding, ofNext, ofCheck, ofNoted, ofWritten};
 
@@ -82,4 +83,12 @@ pub extern "C" fn tarungkis_write_file(
     ensures { λ r. ⌜ (r, now (buffer .exit)) ≡ told ofWritten (answerWrite (now (preamble .entry)) (now (threads .entry)) (now (kinds .entry)) (now (objects .entry)) (now (buffer .entry))) ⌝ }
 {
     numbers::of_written(questions::write_file(preamble, threads, kinds, objects, buffer))
+}
+
+// The next lines of the report. The place says where to go on; all zeros is the start.
+#[no_mangle]
+pub extern "C" fn tarungkis_report(file: &[u8], place: &mut [u32; 4], out: &mut [u8]) -> usize
+    ensures { λ r. ⌜ (r, now (place .exit), now (out .exit)) ≡ answerLines (now (file .entry)) (now (place .entry)) (now (out .entry)) ⌝ }
+{
+    report::next_lines(file, place, out)
 }

@@ -1,16 +1,17 @@
 use borrow.Author.Needs.{needs}
+use lib.ListN.{length}
 use Rattle.table.specs.Table.{trace}
-use Rattle.report.specs.Rest.{linesLeft}
-use Rattle.report.proofs.WritingLaws.{ended-within, filled-within, filled-less}
+use Rattle.report.specs.Rest.{linesFrom}
+use Rattle.report.proofs.WritingLaws.{ended-within, more-within, more-less}
 use Rattle.nightly.proofs.NightlyLaws.{Between, between-start, between-again}
 use Rattle.nightly.proofs.write_blocks.Statement.{statement}
 use Rattle.nightly.proofs.write_blocks.Tie as tie
 
 abbrev Inv-loop : tie.InvT-loop
-Inv-loop table list₀ area₀ out₀ at position₀ bytes₀ list area out position bytes = Between table list₀ area₀ out₀ list area out position bytes
+Inv-loop table list₀ area₀ out₀ position₀ list area out position = Between table list₀ area₀ out₀ list area out position
 
 abbrev μ-loop : tie.MeasureT-loop
-μ-loop table list₀ area₀ out₀ at position₀ bytes₀ list area out position bytes = linesLeft (trace table) position
+μ-loop table list₀ area₀ out₀ position₀ list area out position = length (linesFrom (trace table) position)
 
 pub write-blocks-spec : {M : Type 1} → statement M
 write-blocks-spec =
@@ -28,10 +29,10 @@ write-blocks-spec =
     (λ c. search needs)
     (λ c. search needs)
     (λ c. search needs)
-    (λ c κs. search (filled-within, needs))
+    (λ c κs. search (more-within, needs))
     (λ c. search needs)
     (λ c. search needs)
     (λ c. search needs)
     (λ c. search needs)
-    (λ c. search (filled-less, needs))
+    (λ c. search (more-less, needs))
     (λ c. search (between-again, needs)))

@@ -1,16 +1,17 @@
 use borrow.Author.Needs.{needs}
+use lib.ListN.{length}
 use Rattle.table.specs.Table.{trace}
-use Rattle.report.specs.Rest.{linesLeft}
+use Rattle.report.specs.Rest.{linesFrom}
 use Rattle.report.proofs.WritingLaws.{Filling, filling-start, fill-ended, fill-within, fill-full, fill-less, fill-on}
 use Rattle.report.proofs.block.Statement.{statement}
 use Rattle.report.proofs.block.Tie as tie
 
 abbrev Inv-loop : tie.InvT-loop
-Inv-loop table list₀ area₀ out₀ at position₀ bytes₀ list area out position bytes =
-    Filling table position₀ list₀ area₀ at out₀ list area out position bytes
+Inv-loop table list₀ area₀ out₀ position₀ bytes₀ list area out position bytes =
+    Filling table position₀ list₀ area₀ out₀ list area out position bytes
 
 abbrev μ-loop : tie.MeasureT-loop
-μ-loop table list₀ area₀ out₀ at position₀ bytes₀ list area out position bytes = linesLeft (trace table) position
+μ-loop table list₀ area₀ out₀ position₀ bytes₀ list area out position bytes = length (linesFrom (trace table) position)
 
 pub block-spec : {M : Type 1} → statement M
 block-spec =

@@ -1,5 +1,5 @@
 use borrow.Author.Needs.{needs}
-use Rattle.report.proofs.FinishLaws.{line-first, line-short}
+use Rattle.report.proofs.WritingLaws.{line-events}
 use Rattle.report.proofs.first_line.Statement.{statement}
 use Rattle.report.proofs.first_line.Tie as tie
 
@@ -12,4 +12,4 @@ first-line-spec =
     (λ c. search needs)
     (λ c κs. search needs)
     (λ c. search needs)
-    (λ c. search (line-first, line-short, needs)))
+    (λ c. search (line-events, needs)))

@@ -1,5 +1,5 @@
 use borrow.Author.Needs.{needs}
-use Rattle.report.proofs.WritingLaws.{line-ended, race-room, count-fits, line-more}
+use Rattle.report.proofs.WritingLaws.{line-first, line-next}
 use Rattle.report.proofs.line.Statement.{statement}
 use Rattle.report.proofs.line.Tie as tie
 
@@ -9,15 +9,9 @@ line-spec =
     (tie.spec
     (λ c κs. search needs)
     (λ c. search needs)
+    (λ c. search needs)
+    (λ c. search needs)
+    (λ c. search (line-next, needs))
     (λ c κs. search needs)
     (λ c. search needs)
-    (λ c κs. search (race-room, needs))
-    (λ c. search (count-fits, needs))
-    (λ c. search needs)
-    (λ c. search needs)
-    (λ c. search needs)
-    (λ c. search (line-ended, needs))
-    (λ c. search needs)
-    (λ c. search needs)
-    (λ c. search needs)
-    (λ c. search (line-more, needs)))
+    (λ c. search (line-first, needs)))
