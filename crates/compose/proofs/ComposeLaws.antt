@@ -1,5 +1,5 @@
 -- The ways through the program.
-use Prim.Native.Nat.{ℕ, _-_, _≤_}
+use Prim.Native.Nat.{ℕ, _+_, _-_, _≤_}
 use native.Mathlib.Omega.{arith}
 use mathlib.Core.Path.{_≡_, refl, sym, _∙_, ap}
 use mathlib.Core.Option.{Option, none, some}
@@ -8,11 +8,14 @@ use lib.ListN.{length, take, drop, length-append}
 use Rattle.model.specs.Trace.{Trace, threadList, kindList, objectList}
 use Rattle.model.specs.Lists.{inFront}
 use Rattle.limits.specs.declared.Refusal.{Refusal}
-use Rattle.limits.specs.Refusals.{settled}
+use Rattle.limits.specs.Refusals.{settled, eventOf}
+use Rattle.limits.specs.declared.EventNumber.{EventNumber}
+use Rattle.limits.specs.declared.EventNumber.the-variants.{At}
 use Rattle.appending.specs.Appended.{Appends}
 use Rattle.writing.specs.Written.{fileWith}
 use Rattle.writing.proofs.ListLaws.{lists-back, lists-even}
-use Rattle.composing.specs.Texts.{lines, joined, Makes, ReadsText, good, bad-line as bad-text}
+use Rattle.wording.specs.declared.Reason.{Reason}
+use Rattle.composing.specs.Texts.{lines, lineOf, joined, Makes, ReadsText, good, bad-line as bad-text}
 use Rattle.composing.specs.declared.Text.{Text}
 use Rattle.composing.specs.declared.Text.the-variants.{Bad, Good}
 use Rattle.composing.proofs.AnswerLaws.{makes-few}
@@ -20,18 +23,22 @@ use Rattle.writing.proofs.WriteLaws.{true-even, refused-no-bytes}
 use Rattle.writing.specs.Writing.{wrote, handRefusal, handed, answerWrite}
 use Rattle.writing.specs.declared.Written.{Written}
 use Rattle.writing.specs.declared.Written.the-variants.{Refused as NotWritten, Bytes}
-use Rattle.compose.specs.Composed.{recorded, Composes, bad-line, refused, recording, WritesParts, not-written, parts-written}
+use Rattle.compose.specs.Composed.{recorded, lineAbout, Composes, bad-line, refused, recording, WritesParts, not-written, parts-written}
 use Rattle.compose.specs.declared.Composed.{Composed}
 use Rattle.compose.specs.declared.Composed.the-variants.{BadLine, Refused, Recording}
 
 -- ---- the writer's answer
 
-module _ (a : ℕ) (p threads kinds objects file file′ : List ℕ) (w : Written) (e : (w, file′) ≡ answerWrite p threads kinds objects file) where
-  pub parts-refused : (r : Refusal) → w ≡ NotWritten r → WritesParts a p threads kinds objects file file′ (Refused r a)
-  parts-refused r q = not-written (rw q at e)
+module _ (text : List ℕ) (a : ℕ) (p threads kinds objects file file′ : List ℕ) (w : Written) (e : (w, file′) ≡ answerWrite p threads kinds objects file) where
+  pub parts-refused : (r : Refusal) → w ≡ NotWritten r → (n : ℕ) → n ≡ lineAbout a (lines text) (eventOf r) → WritesParts text a p threads kinds objects file file′ (Refused r n)
+  parts-refused r q n i = not-written i (rw q at e)
 
-  pub parts-bytes : (n : ℕ) → w ≡ Bytes n → WritesParts a p threads kinds objects file file′ (Recording n)
+  pub parts-bytes : (n : ℕ) → w ≡ Bytes n → WritesParts text a p threads kinds objects file file′ (Recording n)
   parts-bytes n q = parts-written (rw q at e)
+
+-- the event that a refusal speaks of
+pub about-event : (text : List ℕ) (a : ℕ) (v e : EventNumber) → v ≡ e → (k : ℕ) → v ≡ At k → (n : ℕ) → n ≡ lineOf (a + k) (lines text) → n ≡ lineAbout a (lines text) e
+about-event text a v e is k q n i = let z : e ≡ At k = sym is ∙ q in rw z i
 
 -- ---- the parts of a text
 
@@ -47,24 +54,29 @@ part-put : {put out out′ : List ℕ} {n : ℕ} → Appends put 0 out out′ n 
 part-put {n = n} a = let z : n - 0 ≡ n = omega arith in rw z (a .front)
 
 parts-mean : {text : List ℕ} {notes : List (List ℕ)} {es : Trace} {a : ℕ} → Makes (lines text) notes es → a ≡ length notes
-    → {p threads kinds objects file file′ : List ℕ} {c : Composed} → WritesParts a p threads kinds objects file file′ c
+    → {p threads kinds objects file file′ : List ℕ} {c : Composed} → WritesParts text a p threads kinds objects file file′ c
     → p ≡ joined notes → threads ≡ threadList es → kinds ≡ kindList es → objects ≡ objectList es → Composes text file file′ c
-parts-mean {es = es} m ea {file = file} (not-written q) f t k o = refused m ea (rw (f, t, k, o) at q ∙ answer-recorded _ es file)
+parts-mean {es = es} m ea {file = file} (not-written i q) f t k o = refused m (rw ea at i) (rw (f, t, k, o) at q ∙ answer-recorded _ es file)
 parts-mean {es = es} m ea {file = file} (parts-written q) f t k o = recording m (rw (f, t, k, o) at q ∙ answer-recorded _ es file)
 
 module _ {text pre pre′ th th′ ki ki′ ob ob′ : List ℕ} where
-  pub compose-bad : {r : Text} → ReadsText text pre pre′ th th′ ki ki′ ob ob′ r → (n : ℕ) → r ≡ Bad n → (file : List ℕ) → Composes text file file (BadLine n)
-  compose-bad (good m ea en pr li) n e file = let o : _≡_ {A = ℕ} 0 1 = cc in absurd (omega arith)
-  compose-bad (bad-text {n = k} x u v) n e file = let q : k ≡ n = cc in bad-line (rw q at x) refl
+  pub compose-bad : {v : Text} → ReadsText text pre pre′ th th′ ki ki′ ob ob′ v → (n : ℕ) (r : Reason) → v ≡ Bad n r → (file : List ℕ) → Composes text file file (BadLine n r)
+  compose-bad (good m ea en pr li) n r e file = let o : _≡_ {A = ℕ} 0 1 = cc in absurd (omega arith)
+  compose-bad (bad-text {n = k} {r = w} x i u v) n r e file = let q : k ≡ n = cc in let z : w ≡ r = cc in bad-line (rw q at x) (sym z ∙ (rw q at i)) refl
 
   pub compose-good : {r : Text} → ReadsText text pre pre′ th th′ ki ki′ ob ob′ r → (a p n : ℕ) → r ≡ Good a p n → {file file′ : List ℕ} {c : Composed}
-      → WritesParts a (part p pre′) (part n th′) (part n ki′) (part n ob′) file file′ c → Composes text file file′ c
+      → WritesParts text a (part p pre′) (part n th′) (part n ki′) (part n ob′) file file′ c → Composes text file file′ c
   compose-good (good {notes = notes} {es = es} {a = a′} {p = p′} {n = n′} m ea en pr li) a p n e w =
       let x : a′ ≡ a = cc in
       let y : p′ ≡ p = cc in
       let z : n′ ≡ n = cc in
       parts-mean m (sym x ∙ ea) w (part-put (rw y at pr)) (part-put (rw z at (li .threads))) (part-put (rw z at (li .kinds))) (part-put (rw z at (li .objects)))
-  compose-good (bad-text x u v) a p n e w = let o : _≡_ {A = ℕ} 0 1 = cc in absurd (omega arith)
+  compose-good (bad-text x i u v) a p n e w = let o : _≡_ {A = ℕ} 0 1 = cc in absurd (omega arith)
+
+  -- a text has no more note lines than bytes
+  pub notes-few : {r : Text} → ReadsText text pre pre′ th th′ ki ki′ ob ob′ r → (a p n : ℕ) → r ≡ Good a p n → (m : ℕ) → length text ≤ m → a ≤ m
+  notes-few (good {a = k} x ea en pr li) a p n e m h = let z : k ≡ a = cc in let g = makes-few text x in omega arith
+  notes-few (bad-text x i u v) a p n e m h = let o : _≡_ {A = ℕ} 0 1 = cc in absurd (omega arith)
 
 -- ---- what an answer says
 
@@ -82,16 +94,10 @@ module _ {text file file′ : List ℕ} where
   -- the bytes of a recording are within the file
   pub recording-within : {c : Composed} → Composes text file file′ c → (n : ℕ) → c ≡ Recording n → n ≤ length file′
   unfolding handed
-  recording-within (bad-line x q) n e = let o : _≡_ {A = ℕ} 0 1 = cc in absurd (omega arith)
+  recording-within (bad-line x i q) n e = let o : _≡_ {A = ℕ} 0 1 = cc in absurd (omega arith)
   recording-within (refused m ea q) n e = let o : _≡_ {A = ℕ} 0 1 = cc in absurd (omega arith)
   recording-within (recording {notes = notes} {es = es} {n = k} m q) n e =
       let s = fileWith (joined notes) es in
       let h = by-refusal (handRefusal s file) s file file′ k q in
       let z : k ≡ n = cc in
       omega arith
-
-  -- a text has no more note lines than bytes
-  pub refused-notes : {c : Composed} → Composes text file file′ c → (r : Refusal) (a : ℕ) → c ≡ Refused r a → (m : ℕ) → length text ≤ m → a ≤ m
-  refused-notes (bad-line x q) r a e m h = let o : _≡_ {A = ℕ} 0 1 = cc in absurd (omega arith)
-  refused-notes (refused {a = k} x ea q) r a e m h = let z : k ≡ a = cc in let g = makes-few text x in omega arith
-  refused-notes (recording x q) r a e m h = let o : _≡_ {A = ℕ} 0 1 = cc in absurd (omega arith)

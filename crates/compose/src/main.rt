@@ -6,10 +6,14 @@ use libc::STDOUT_FILENO;
 use limits::EventNumber;
 use limits::Recording;
 use limits::Refusal;
+use wording::Reason;
 use writing::Written;
+ghost use mathlib.Core.Path.{_≡_};
 ghost use Prim.Native.Nat.{_≤_};
 ghost use lib.ListN.{length};
-ghost use Rattle.compose.specs.Composed.{textBytes, Composes, WritesParts};
+ghost use Rattle.limits.specs.Refusals.{eventOf};
+ghost use Rattle.composing.specs.Texts.{lines};
+ghost use Rattle.compose.specs.Composed.{textBytes, lineAbout, Composes, WritesParts};
 
 // No recording needs a longer text: the longest is that of 4,088 line feeds as preamble, in 4,089 note lines of 6 bytes each.
 const TEXT_BYTES: usize = 32768;
@@ -17,9 +21,9 @@ const TEXT_BYTES: usize = 32768;
 // One byte more than a text may have is enough to refuse it.
 const INPUT_BYTES: usize = TEXT_BYTES + 1;
 
-// What a text makes: the number of its first bad line; the refusal of its recording, and how many note lines it has; or how many bytes its recording has.
+// What a text makes: the number of its first bad line and why it is bad; the refusal of its recording, and the line of the event that it speaks of, or 0; or how many bytes its recording has.
 pub enum Composed {
-    BadLine(usize),
+    BadLine(usize, Reason),
     Refused(Refusal, usize),
     Recording(usize),
 }
@@ -34,14 +38,33 @@ fn say_number(words: &[u8], n: u64) {
     io::print_decimal(STDERR_FILENO, n);
 }
 
-// A refusal; one that speaks of an event also by its line, since a text has its events behind its note lines, each on a line.
-fn say_refused(r: Refusal, notes: usize)
-    requires { ⌜ notes ≤ textBytes ⌝ }
-{
+fn say_reason(r: Reason) {
+    match r {
+        Reason::Empty => say(b"an empty line\n"),
+        Reason::CarriageReturn => say(b"a carriage return\n"),
+        Reason::Tab => say(b"a tab\n"),
+        Reason::LateNote => say(b"a note after an event\n"),
+        Reason::NoteByte => say(b"a note with a byte that is not 20 to 7E hex\n"),
+        Reason::Words => say(b"not three words with one space between them\n"),
+        Reason::Kind => say(b"an unknown kind\n"),
+        Reason::NoNumber => say(b"not a number\n"),
+        Reason::LeadingZero => say(b"a leading zero\n"),
+        Reason::TooLarge => say(b"a number that is too large\n"),
+    }
+}
+
+fn say_bad(line: usize, r: Reason) {
+    say_number(b"compose: bad line ", line as u64);
+    say(b": ");
+    say_reason(r);
+}
+
+// A refusal; one that speaks of an event also by its line.
+fn say_refused(r: Refusal, line: usize) {
     match r.event() {
         EventNumber::Absent => say_number(b"compose: refused ", r.number() as u64),
         EventNumber::At(k) => {
-            say_number(b"compose: bad line ", notes as u64 + k as u64);
+            say_number(b"compose: bad line ", line as u64);
             say_number(b": refused ", r.number() as u64);
             say_number(b" at ", k as u64);
         }
@@ -55,8 +78,20 @@ fn put(file: &[u8]) {
     }
 }
 
-// The recording of a preamble and events; so many note lines were before them.
+// The line of the event that a refusal speaks of, or 0; so many note lines are before the events.
+fn line_about(text: &[u8], notes: usize, r: Refusal) -> usize
+    requires { ⌜ notes ≤ textBytes ⌝ }
+    ensures { λ l. ⌜ l ≡ lineAbout notes (lines (now (text .entry))) (eventOf r) ⌝ }
+{
+    match r.event() {
+        EventNumber::Absent => 0,
+        EventNumber::At(k) => composing::line_of(text, notes + k as usize),
+    }
+}
+
+// The recording of a preamble and events that a text has, with so many note lines.
 fn write_parts(
+    text: &[u8],
     notes: usize,
     preamble: &[u8],
     threads: &[u8],
@@ -64,10 +99,11 @@ fn write_parts(
     objects: &[u16],
     file: &mut [u8],
 ) -> Composed
-    ensures { λ r. ⌜ WritesParts notes (now (preamble .entry)) (now (threads .entry)) (now (kinds .entry)) (now (objects .entry)) (now (file .entry)) (now (file .exit)) r ⌝ }
+    requires { ⌜ notes ≤ textBytes ⌝ }
+    ensures { λ r. ⌜ WritesParts (now (text .entry)) notes (now (preamble .entry)) (now (threads .entry)) (now (kinds .entry)) (now (objects .entry)) (now (file .entry)) (now (file .exit)) r ⌝ }
 {
     match writing::write_file(preamble, threads, kinds, objects, file) {
-        Written::Refused(r) => Composed::Refused(r, notes),
+        Written::Refused(r) => Composed::Refused(r, line_about(text, notes, r)),
         Written::Bytes(n) => Composed::Recording(n),
     }
 }
@@ -82,12 +118,13 @@ fn compose_text(text: &[u8], file: &mut [u8]) -> Composed
     let mut kinds = [0u8; TEXT_BYTES];
     let mut objects = [0u16; TEXT_BYTES];
     match composing::read_text(text, &mut preamble, &mut threads, &mut kinds, &mut objects) {
-        Text::Bad(n) => Composed::BadLine(n),
+        Text::Bad(n, r) => Composed::BadLine(n, r),
         Text::Good {
             notes,
             preamble: p,
             events,
         } => write_parts(
+            text,
             notes,
             &preamble[0..p],
             &threads[0..events],
@@ -104,11 +141,8 @@ fn answer(text: &[u8])
 {
     let mut file = [0u8; Recording::MAX_BYTES];
     match compose_text(text, &mut file) {
-        Composed::BadLine(n) => {
-            say_number(b"compose: bad line ", n as u64);
-            say(b"\n");
-        }
-        Composed::Refused(r, notes) => say_refused(r, notes),
+        Composed::BadLine(n, r) => say_bad(n, r),
+        Composed::Refused(r, line) => say_refused(r, line),
         Composed::Recording(n) => put(&file[0..n]),
     }
 }

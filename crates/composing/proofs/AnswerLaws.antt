@@ -9,8 +9,9 @@ use Rattle.model.specs.Trace.{Trace}
 use Rattle.model.proofs.Tests.{by-cases}
 use Rattle.format.specs.Readable.{lineFeed}
 use Rattle.appending.specs.Appended.{Appends}
-use Rattle.composing.specs.Lines.{noteLine, eventLine}
+use Rattle.wording.specs.Lines.{noteLine, eventLine}
 use Rattle.composing.specs.Texts.{extend, lines, Makes, ReadsText, good, bad-line}
+use Rattle.composing.proofs.SaidLaws.{said-few}
 use Rattle.composing.specs.declared.Text.{Text}
 use Rattle.composing.specs.declared.Text.the-variants.{Good}
 
@@ -30,6 +31,7 @@ lines-few (b ∷ s) =
 pub makes-few : (text : List ℕ) {notes : List (List ℕ)} {es : Trace} → Makes (lines text) notes es → length notes ≤ length text
 makes-few text {notes} {es} m =
     let f = lines-few text in
+    let k = said-few (lines text) in
     let g = ap length (m .these) in
     let h = length-append (map noteLine notes) (map eventLine es) in
     let i = length-map notes noteLine in
@@ -49,7 +51,7 @@ module _ {text pre pre′ th th′ ki ki′ ob ob′ : List ℕ} where
       let l = appends-within (li .kinds) in
       let o = appends-within (li .objects) in
       (omega arith, omega arith, omega arith, omega arith)
-  good-parts (bad-line x u v) a p n e = let o : _≡_ {A = ℕ} 0 1 = cc in absurd (omega arith)
+  good-parts (bad-line x i u v) a p n e = let o : _≡_ {A = ℕ} 0 1 = cc in absurd (omega arith)
 
   module _ (r : Text) (x : ReadsText text pre pre′ th th′ ki ki′ ob ob′ r) (a p n : ℕ) (e : r ≡ Good a p n) where
     pub preamble-within : p ≤ length pre′

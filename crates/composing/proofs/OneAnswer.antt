@@ -1,71 +1,22 @@
--- A line has one reading, and a text one answer, which leaves one content in what is lent.
-use Prim.Native.Nat.{ℕ, zero, suc, _-_, _≤_, _<_}
+-- A text has one answer, which leaves one content in what is lent.
+use Prim.Native.Nat.{ℕ, zero, suc, _-_, _<_}
 use native.Mathlib.Omega.{arith}
 use mathlib.Core.Path.{_≡_, refl, sym, _∙_, ap}
-use mathlib.Core.Bool.{cond}
 use mathlib.Core.List.{List, [], _∷_, _++_, map, List·Memᴰ, List·Memᴰ·head, List·Memᴰ·tail, Memᴰ·append-left}
-use lib.ListN.{length, getD, take, drop, take-append-drop}
+use lib.ListN.{length, take, drop, take-append-drop}
 use lib.Seq.{take-take}
-use lib.Dec.{eqb, ltb}
-use borrow.Author.Tests.{eqb-true, eqb-false, ltb-true, ltb-false}
-use Rattle.model.specs.Trace.{Event, Trace, read, write, acquire, release}
+use lib.Dec.{ltb}
+use borrow.Author.Tests.{ltb-true, ltb-false}
+use Rattle.model.specs.Trace.{Event, Trace}
 use Rattle.model.proofs.Tests.{by-cases}
-use Rattle.appending.specs.Decimal.{decimal}
 use Rattle.appending.specs.Appended.{Appends}
-use Rattle.composing.specs.Lines.{kindWord, noteLine, eventLine, InRange, Reads, note, event, bad}
-use Rattle.composing.specs.Texts.{lines, Makes, Listed, FirstBad, ReadsText, good, bad-line, Settled}
-use Rattle.composing.specs.declared.Line.{Line}
-use Rattle.composing.specs.declared.Line.the-variants.{Event as EventOf}
+use Rattle.wording.specs.Lines.{noteLine, eventLine, InRange}
+use Rattle.composing.specs.Texts.{lines, said, Makes, Listed, FirstBad, ReadsText, good, bad-line, Settled}
 use Rattle.composing.specs.declared.Text.{Text}
 use Rattle.composing.specs.declared.Text.the-variants.{Bad, Good}
-use Rattle.composing.proofs.NumberLaws.{decimal-whole}
-use Rattle.composing.proofs.LineLaws.{word-whole, space-one, same-number, event-apart, event-no-note}
-
--- ---- a line
-
--- the kind of a word, by its third byte
-abbrev kindBy : List ℕ → ℕ
-kindBy w = cond (eqb (getD w 2 0) 97) read (cond (eqb (getD w 2 0) 105) write (cond (eqb (getD w 2 0) 113) acquire release))
-
-word-kind : (k : ℕ) → read ≤ k → k ≤ release → kindBy (kindWord k) ≡ k
-unfolding kindWord
-word-kind k l m =
-    by-cases (eqb k read) (λ p. rw p (sym (eqb-true k read p)))
-    (λ p.
-    by-cases (eqb k write) (λ q. rw (p, q) (sym (eqb-true k write q)))
-    (λ q.
-    by-cases (eqb k acquire) (λ r. rw (p, q, r) (sym (eqb-true k acquire r)))
-    (λ r.
-    let a = eqb-false k read p in
-    let b = eqb-false k write q in
-    let c = eqb-false k acquire r in
-    let e : release ≡ k = omega (arith, a, b, c) in
-    rw (p, q, r) e)))
-
--- an event line is that of one event
-event-one : (e f : Event) → InRange e → InRange f → eventLine e ≡ eventLine f → e ≡ f
-unfolding eventLine
-event-one e f r s q =
-    let a = space-one (decimal (e .thread)) (kindWord (e .kind) ++ (32 ∷ decimal (e .object))) (decimal (f .thread)) (kindWord (f .kind) ++ (32 ∷ decimal (f .object))) (decimal-whole (e .thread)) (decimal-whole (f .thread)) q in
-    let b = space-one (kindWord (e .kind)) (decimal (e .object)) (kindWord (f .kind)) (decimal (f .object)) (word-whole (e .kind)) (word-whole (f .kind)) (a .1) in
-    let t = same-number (e .thread) (f .thread) (a .0) in
-    let o = same-number (e .object) (f .object) (b .1) in
-    let k : e .kind ≡ f .kind = sym (word-kind (e .kind) (r .least) (r .most)) ∙ ap kindBy (b .0) ∙ word-kind (f .kind) (s .least) (s .most) in
-    let same : _≡_ {A = Event} (record { thread = e .thread; kind = e .kind; object = e .object }) (record { thread = f .thread; kind = f .kind; object = f .object }) = rw (t, k, o) in
-    same
-
-pub line-one : {line : List ℕ} {r s : Line} → Reads line r → Reads line s → r ≡ s
-line-one (note n) (note m) = refl
-line-one (note n) (event {t} {k} {o} i) = absurd (event-no-note (record { thread = t; kind = k; object = o }) i n)
-line-one (note n) (bad f g) = absurd (f n)
-line-one (event {t} {k} {o} i) (note n) = absurd (event-no-note (record { thread = t; kind = k; object = o }) i n)
-line-one (event {t = t} {k = k} {o = o} i) (event {t = t′} {k = k′} {o = o′} j) =
-    let e = event-one (record { thread = t; kind = k; object = o }) (record { thread = t′; kind = k′; object = o′ }) (i .in-range) (j .in-range) (sym (i .these) ∙ j .these) in
-    ap (λ (e : Event). EventOf (e .thread) (e .kind) (e .object)) e
-line-one (event {t} {k} {o} i) (bad f g) = absurd (g (record { thread = t; kind = k; object = o }) i)
-line-one (bad f g) (note n) = absurd (f n)
-line-one (bad f g) (event {t} {k} {o} i) = absurd (g (record { thread = t; kind = k; object = o }) i)
-line-one (bad f g) (bad h i) = refl
+use Rattle.composing.proofs.SaidLaws.{said-front}
+use Rattle.wording.proofs.LineOne.{event-one}
+use Rattle.wording.proofs.LineLaws.{event-apart}
 
 -- ---- the lines
 
@@ -115,12 +66,14 @@ front-lines (suc n) (t ∷ notes) es =
     let z : suc n - suc (length notes) ≡ n - length notes = omega arith in
     rw z (ap (λ (r : List (List ℕ)). noteLine t ∷ r) (front-lines n notes es))
 
-makes-front : (n : ℕ) {ls notes : List (List ℕ)} {es : Trace} → Makes ls notes es → Makes (take n ls) (take n notes) (take (n - length notes) es)
+makes-front : (n : ℕ) {ls notes : List (List ℕ)} {es : Trace} → Makes ls notes es
+    → Makes (take n ls) (take (length (said (take n ls))) notes) (take (length (said (take n ls)) - length notes) es)
 makes-front n {ls} {notes} {es} m =
+    let k = length (said (take n ls)) in
     record {
-      these = ap (take n) (m .these) ∙ front-lines n notes es;
-      readable = λ t i. m .readable t (take-in n notes t i);
-      in-range = λ e i. m .in-range e (take-in (n - length notes) es e i);
+      these = said-front n ls ∙ ap (take k) (m .these) ∙ front-lines k notes es;
+      readable = λ t i. m .readable t (take-in k notes t i);
+      in-range = λ e i. m .in-range e (take-in (k - length notes) es e i);
     }
 
 -- ---- a text
@@ -147,12 +100,12 @@ same-lent e a b l k = record {
 module _ (text : List ℕ) where
   -- lines that make a recording have no bad line
   pub none-bad : {notes : List (List ℕ)} {es : Trace} → Makes (lines text) notes es → (n : ℕ) → ((other : List (List ℕ)) (more : Trace) → ¬ Makes (take n (lines text)) other more) → ⊥
-  none-bad {notes} {es} m n f = f (take n notes) (take (n - length notes) es) (makes-front n m)
+  none-bad m n f = f _ _ (makes-front n m)
 
   -- and those before a bad line none before it
   none-before : {notes : List (List ℕ)} {es : Trace} (m : ℕ) → Makes (take (m - 1) (lines text)) notes es → (n : ℕ)
       → ((other : List (List ℕ)) (more : Trace) → ¬ Makes (take n (lines text)) other more) → n < m → ⊥
-  none-before {notes} {es} m x n f h = f (take n notes) (take (n - length notes) es) (rw (take-take n (m - 1) (lines text) (omega arith)) at (makes-front n x))
+  none-before m x n f h = f _ _ (rw (take-take n (m - 1) (lines text) (omega arith)) at (makes-front n x))
 
   pub bad-one : {n m : ℕ} → FirstBad text n → FirstBad text m → n ≡ m
   bad-one {n} {m} x y =
@@ -172,12 +125,14 @@ module _ (text : List ℕ) where
       let w : a ≡ a′ = ea ∙ ap length x ∙ sym ea′ in
       let z : Good a p n ≡ Good a′ p′ n′ = cc in
       same-lent z (rw x at pr) pr′ (rw y at li) li′
-  text-one (good m ea en pr li) (bad-line {n = n} x u v) = absurd (none-bad m n (x .none))
-  text-one (bad-line {n = n} x u v) (good m ea en pr li) = absurd (none-bad m n (x .none))
-  text-one (bad-line {n = n} x pr li) (bad-line {n = n′} y pr′ li′) =
+  text-one (good m ea en pr li) (bad-line {n = n} x i u v) = absurd (none-bad m n (x .none))
+  text-one (bad-line {n = n} x i u v) (good m ea en pr li) = absurd (none-bad m n (x .none))
+  text-one (bad-line {n = n} {r = r} x i pr li) (bad-line {n = n′} {r = r′} y i′ pr′ li′) =
       let z = bad-one x y in
+      let w : r ≡ r′ = rw z at i ∙ sym i′ in
+      let q : Bad n r ≡ Bad n′ r′ = cc in
       let b : Makes (take (n′ - 1) (lines text)) (x .notes) (x .es) = rw z at (x .before) in
       let l = makes-one b (y .before) in
       let u = l .0 in
       let v = l .1 in
-      same-lent (ap Bad z) (rw u at pr) pr′ (rw v at li) li′
+      same-lent q (rw u at pr) pr′ (rw v at li) li′

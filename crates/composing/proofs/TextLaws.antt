@@ -6,31 +6,35 @@ use mathlib.Core.Logic.{⊎-elim}
 use mathlib.Core.Bool.{Bool, true, false, not}
 use mathlib.Core.List.{List, [], _∷_, _++_, map, map-append, append-assoc, append-nil, List·Memᴰ, List·Memᴰ·head, List·Memᴰ·tail, List·Memᴰ·not-nil, List·Memᴰ·eq-of-singleton, List·Memᴰ·append-cases, Memᴰ·append-left, Memᴰ·append-right}
 use lib.ListN.{length, take, drop, set, length-append, length-drop, length-map}
-use lib.Seq.{take-at, length-take-le}
+use lib.Seq.{take-at, getD-at, length-take-le}
 use lib.Dec.{eqb}
 use borrow.Author.Tests.{eq-eqb, ne-eqb, not-true, not-false}
-use mir.Syntax.{w64}
-use mir.Val.{Fits}
 use Rattle.model.proofs.Tests.{by-cases}
 use Rattle.model.specs.Trace.{Event, Trace}
 use Rattle.appending.specs.Appended.{Appends}
 use Rattle.appending.proofs.AppendLaws.{appends-nothing, appends-byte, appends-then}
 use Rattle.format.specs.Readable.{Readable}
-use Rattle.composing.specs.Lines.{noteLine, IsNote, eventLine, InRange, IsEvent, Reads}
-use Rattle.composing.specs.Texts.{lines, joined, Makes, Listed, ReadsText, good, bad-line}
-use Rattle.composing.specs.Parts.{SaysNote, NextLine, noteBytes, NotesRead, NotesUpTo, ListsLent, EventsRead, ReadsEvents, all, stopped}
-use Rattle.composing.specs.declared.Line.{Line}
-use Rattle.composing.specs.declared.Line.the-variants.{Bad as BadLine, Note, Event as EventOf}
+use Rattle.wording.specs.Lines.{noteLine, IsNote, eventLine, InRange, IsEvent, isComment, Reads}
+use Rattle.composing.specs.Texts.{lines, lineAt, said, lineOf, joined, Makes, Listed, ReadsText, good, bad-line}
+use Rattle.wording.specs.Parts.{SaysNote}
+use Rattle.composing.specs.Parts.{LineEnd, Says, Skips, NextSaid, noteBytes, NotesRead, NotesUpTo, ListsLent, EventsRead, ReadsEvents, all, stopped, StopsAt, BadAt, bad-at}
+use Rattle.wording.specs.Reasons.{reasonOf}
+use Rattle.wording.specs.declared.Reason.{Reason}
+use Rattle.wording.specs.declared.Line.{Line}
+use Rattle.wording.specs.declared.Line.the-variants.{Bad as BadLine, Note, Event as EventOf}
+use Rattle.composing.specs.declared.Text.{Text}
 use Rattle.composing.specs.declared.Text.the-variants.{Bad, Good}
 use Rattle.composing.specs.declared.Events.{Events}
 use Rattle.composing.specs.declared.Events.the-variants.{Stopped, All}
-use Rattle.composing.proofs.FirstLaws.{from, from-drop}
-use Rattle.composing.proofs.LineLaws.{says-note, says-none, event-no-note, reads-note, reads-event, reads-bad}
-use Rattle.composing.proofs.LinesLaws.{lines-none}
+use Rattle.wording.proofs.FirstLaws.{from, from-drop}
+use Rattle.wording.proofs.NoteLaws.{says-note, says-none}
+use Rattle.wording.proofs.LineLaws.{event-apart, event-no-note, reads-note, reads-event, reads-bad}
+use Rattle.composing.proofs.LinesLaws.{lines-none, comment-line}
+use Rattle.composing.proofs.SaidLaws.{says-nothing, says-then, says-here, says-line, says-all, said-append, said-on, line-of-next}
 
 -- ---- one more at the end of a list
 
-all-more : {A : Type 0} (P : A → Type 0) (l : List A) (x : A) → ((a : A) → List·Memᴰ a l → P a) → P x → (a : A) → List·Memᴰ a (l ++ (x ∷ [])) → P a
+pub all-more : {A : Type 0} (P : A → Type 0) (l : List A) (x : A) → ((a : A) → List·Memᴰ a l → P a) → P x → (a : A) → List·Memᴰ a (l ++ (x ∷ [])) → P a
 all-more P l x f p a m = ⊎-elim (λ g. f a g) (λ g. subst P (sym (List·Memᴰ·eq-of-singleton g)) p) (List·Memᴰ·append-cases l m)
 
 length-more : {A : Type 0} (l : List A) (x : A) → length (l ++ (x ∷ [])) ≡ length l + 1
@@ -45,10 +49,10 @@ joined-more [] t = refl
 joined-more (x ∷ []) t = refl
 joined-more (x ∷ y ∷ l) t = rw (joined-more (y ∷ l) t, note-later (length l) t, note-later (suc (length l)) t, append-assoc)
 
--- lines of which the first of the rest goes over
-lines-more : {A : Type 0} (f : A → List ℕ) (ls : List (List ℕ)) (l : List A) (rest more : List (List ℕ)) (line : List ℕ) (x : A) → ls ≡ map f l ++ rest → rest ≡ line ∷ more → line ≡ f x
-    → ls ≡ map f (l ++ (x ∷ [])) ++ more
-lines-more f ls l rest more line x e g h = rw (e, g, h, map-append, append-assoc)
+-- one more line that is no comment
+says-more : {A : Type 0} (f : A → List ℕ) (l : List A) (x : A) {text line : List ℕ} {from at next : ℕ} → Says text from at (map f l) → Says text at next (line ∷ []) → line ≡ f x
+    → Says text from next (map f (l ++ (x ∷ [])))
+says-more f l x s t e = rw map-append (rw e at (says-then s t))
 
 -- ---- the text of a note line, put
 
@@ -71,16 +75,16 @@ note-put notes t s n {p} {q} {pre₀} {pre} {pre′} e g a b =
 
 -- ---- note lines
 
-pub notes-start : (text pre : List ℕ) → NotesRead text pre pre 0 0 0
+pub notes-start : (text pre : List ℕ) (at : ℕ) → Skips text 0 at → NotesRead text pre pre 0 0 at
 unfolding joined
-notes-start text pre =
+notes-start text pre at s =
     record {
       notes = [];
-      these = refl;
+      these = s .nothing;
       readable = λ t m. absurd (List·Memᴰ·not-nil m);
       number = refl;
       put = appends-nothing 0 pre (omega arith);
-      within = omega arith;
+      stands = s .stands;
       few = omega arith;
       short = omega arith;
     }
@@ -93,7 +97,7 @@ module _ {text pre₀ pre : List ℕ} {n p at : ℕ} (r : NotesRead text pre₀ 
         stops = λ l more e. let z = lines-none text at h in let o : _≡_ {A = ℕ} 0 1 = cc in absurd (omega arith);
       }
 
-  module _ {end next : ℕ} (l : NextLine text at end next) {b : Bool} (x : SaysNote (take (end - at) (drop at text)) b) where
+  module _ {end : ℕ} (l : LineEnd text at end) {b : Bool} (x : SaysNote (take (end - at) (drop at text)) b) where
     line-length : length (take (end - at) (drop at text)) ≡ end - at
     line-length = let d = length-drop at text in let h = l .high in length-take-le (end - at) (drop at text) (omega arith)
 
@@ -126,19 +130,20 @@ module _ {text pre₀ pre : List ℕ} {n p at : ℕ} (r : NotesRead text pre₀ 
           let w = l .high in
           rw text-of (omega arith)
 
-      pub notes-on : {pre′ : List ℕ} {q : ℕ} → Appends (noteBytes n (from 5 (take (end - at) (drop at text)))) p pre pre′ q → NotesRead text pre₀ pre′ (n + 1) q next
-      notes-on {pre′} {q} v =
+      pub notes-on : {pre′ : List ℕ} {q : ℕ} → Appends (noteBytes n (from 5 (take (end - at) (drop at text)))) p pre pre′ q → at < length text → {next : ℕ} → NextSaid text end next
+          → NotesRead text pre₀ pre′ (n + 1) q next
+      notes-on {pre′} {q} v h {next} k =
           let c = note-put (r .notes) (is-note .text) (from 5 (take (end - at) (drop at text))) n (r .number) text-of (r .put) v in
           let t = text-length in
           record {
             notes = r .notes ++ (is-note .text ∷ []);
-            these = lines-more noteLine (lines text) (r .notes) (lines (drop at text)) (lines (drop next text)) (take (end - at) (drop at text)) (is-note .text) (r .these) (l .splits) (is-note .these);
+            these = says-more noteLine (r .notes) (is-note .text) (r .these) (says-line (r .stands) l k) (is-note .these);
             readable = all-more (λ (t : List ℕ). Readable t) (r .notes) (is-note .text) (r .readable) (is-note .readable);
-            number = let m = length-more (r .notes) (is-note .text) in let k = r .number in omega arith;
+            number = let m = length-more (r .notes) (is-note .text) in let u = r .number in omega arith;
             put = c .0;
-            within = l .within;
-            few = let u = r .few in let v = l .on in omega arith;
-            short = let s = c .1 in let u = r .short in let k = l .low in let w = l .past in omega arith;
+            stands = k .stands;
+            few = let u = r .few in let v = said-on h l k in omega arith;
+            short = let s = c .1 in let u = r .short in let v = l .low in let w = k .low in omega arith;
           }
 
 -- ---- event lines
@@ -150,11 +155,11 @@ pub events-start : (text : List ℕ) (from : ℕ) (th ki ob : List ℕ) → List
 events-start text from th ki ob g =
     record {
       es = [];
-      these = refl;
+      these = says-nothing text from;
       in-range = λ e m. absurd (List·Memᴰ·not-nil m);
       number = refl;
       put = listed-none th ki ob;
-      within = g .start;
+      stands = g .start;
       few = omega arith;
     }
 
@@ -165,15 +170,16 @@ module _ {text : List ℕ} {from : ℕ} {th₀ th ki₀ ki ob₀ ob : List ℕ} 
   pub events-all : length text ≤ at → ReadsEvents text from th₀ th ki₀ ki ob₀ ob (All n)
   events-all h = all r h
 
-  module _ (within : at < length text) {end next : ℕ} (l : NextLine text at end next) {a : Line} (x : Reads (take (end - at) (drop at text)) a) where
-    pub events-bad : a ≡ BadLine → ReadsEvents text from th₀ th ki₀ ki ob₀ ob (Stopped n)
+  module _ (within : at < length text) {end : ℕ} (l : LineEnd text at end) {a : Line} (x : Reads (take (end - at) (drop at text)) a) where
+    pub events-bad : a ≡ BadLine → ReadsEvents text from th₀ th ki₀ ki ob₀ ob (Stopped n at)
     events-bad e = stopped r within (l .splits) (reads-bad x e .1)
 
-    pub events-note : a ≡ Note → ReadsEvents text from th₀ th ki₀ ki ob₀ ob (Stopped n)
+    pub events-note : a ≡ Note → ReadsEvents text from th₀ th ki₀ ki ob₀ ob (Stopped n at)
     events-note e = stopped r within (l .splits) (λ f i. event-no-note f i (reads-note x e))
 
-    pub events-on : ListsLent text from th₀ ki₀ ob₀ → (t k o : ℕ) → a ≡ EventOf t k o → EventsRead text from th₀ (set th n t) ki₀ (set ki n k) ob₀ (set ob n o) (n + 1) next
-    events-on g t k o e = go (record { thread = t; kind = k; object = o }) (reads-event x t k o e)
+    pub events-on : ListsLent text from th₀ ki₀ ob₀ → (t k o : ℕ) → a ≡ EventOf t k o → {next : ℕ} → NextSaid text end next
+        → EventsRead text from th₀ (set th n t) ki₀ (set ki n k) ob₀ (set ob n o) (n + 1) next
+    events-on g t k o e {next} y = go (record { thread = t; kind = k; object = o }) (reads-event x t k o e)
       where
         go : (v : Event) → IsEvent (take (end - at) (drop at text)) v → EventsRead text from th₀ (set th n (v .thread)) ki₀ (set ki n (v .kind)) ob₀ (set ob n (v .object)) (n + 1) next
         go v i =
@@ -186,7 +192,7 @@ module _ {text : List ℕ} {from : ℕ} {th₀ th ki₀ ki ob₀ ob : List ℕ} 
             let u″ = g .objects in
             record {
               es = r .es ++ (v ∷ []);
-              these = lines-more eventLine (lines (drop from text)) (r .es) (lines (drop at text)) (lines (drop next text)) (take (end - at) (drop at text)) v (r .these) (l .splits) (i .these);
+              these = says-more eventLine (r .es) v (r .these) (says-line (r .stands) l y) (i .these);
               in-range = all-more InRange (r .es) v (r .in-range) (i .in-range);
               number = let m = length-more (r .es) v in let k = r .number in omega arith;
               put = record {
@@ -194,8 +200,8 @@ module _ {text : List ℕ} {from : ℕ} {th₀ th ki₀ ki ob₀ ob : List ℕ} 
                 kinds = put-more (λ (e : Event). e .kind) (r .es) v ki₀ ki n (omega arith) (r .put .kinds);
                 objects = put-more (λ (e : Event). e .object) (r .es) v ob₀ ob n (omega arith) (r .put .objects);
               };
-              within = l .within;
-              few = let w = l .on in omega arith;
+              stands = y .stands;
+              few = let w = said-on within l y in omega arith;
             }
 
 -- ---- lines that make no recording
@@ -211,27 +217,29 @@ last-in xs x [] z zs e = let m : List·Memᴰ x (xs ++ (x ∷ [])) = Memᴰ·app
 last-in [] x (y ∷ ys) z zs e = let h = ap length e in let g = length-append ys (z ∷ zs) in absurd (omega arith)
 last-in (w ∷ xs) x (y ∷ ys) z zs e = last-in xs x ys z zs cc
 
--- what is in the front of lines, and what follows them and is no event line, with f no note line the first of those after the notes
-module _ (front : List (List ℕ)) (l : List ℕ) (no-event : (e : Event) → ¬ IsEvent l e) (f : List ℕ) (no-note : ¬ IsNote f) (there : List·Memᴰ f (front ++ (l ∷ []))) where
-  makes-none : (notes : List (List ℕ)) (es : Trace) → ¬ Makes (front ++ (l ∷ [])) notes es
+-- lines that say a front, and a line that is no event line, with f no note line the first of those after the notes
+module _ (ls front : List (List ℕ)) (l : List ℕ) (says : said ls ≡ front ++ (l ∷ [])) (no-event : (e : Event) → ¬ IsEvent l e) (f : List ℕ) (no-note : ¬ IsNote f) (there : List·Memᴰ f (front ++ (l ∷ []))) where
+  makes-none : (notes : List (List ℕ)) (es : Trace) → ¬ Makes ls notes es
   makes-none notes [] m =
-      let e : front ++ (l ∷ []) ≡ map noteLine notes = m .these ∙ append-nil (map noteLine notes) in
+      let e : front ++ (l ∷ []) ≡ map noteLine notes = sym says ∙ m .these ∙ append-nil (map noteLine notes) in
       let i : List·Memᴰ f (map noteLine notes) = rw e at there in
       let r = map-in noteLine notes f i in
       no-note (record { text = r .0; readable = m .readable (r .0) (r .1); these = r .2 })
   makes-none notes (e ∷ es) m =
-      let r = map-in eventLine (e ∷ es) l (last-in front l (map noteLine notes) (eventLine e) (map eventLine es) (m .these)) in
+      let r = map-in eventLine (e ∷ es) l (last-in front l (map noteLine notes) (eventLine e) (map eventLine es) (sym says ∙ m .these)) in
       no-event (r .0) (record { in-range = m .in-range (r .0) (r .1); these = r .2 })
 
 -- ---- the text
 
+-- the answer for a bad line
+pub stop-answer : (text : List ℕ) (m at n end : ℕ) → n ≡ lineOf m (lines text) → LineEnd text at end → (r : Reason) → r ≡ reasonOf (take (end - at) (drop at text)) → BadAt text m at (Bad n r)
+stop-answer text m at n end e l r q = bad-at e (l .splits) q
+
 module _ {text pre pre′ : List ℕ} {a p end : ℕ} (r : NotesUpTo text pre pre′ a p end) {th th′ ki ki′ ob ob′ : List ℕ} where
   pub text-good : {v : Events} → ReadsEvents text end th th′ ki ki′ ob ob′ v → (n : ℕ) → v ≡ All n → ReadsText text pre pre′ th th′ ki ki′ ob ob′ (Good a p n)
-  text-good (all {n = m} {at = at} s h) n e =
+  text-good (all {n = m} s h) n e =
       let q : m ≡ n = cc in
-      let z = lines-none text at h in
-      let w : lines text ≡ map noteLine (r .read .notes) ++ map eventLine (s .es) = r .read .these ∙ rw (s .these, z, append-nil) in
-      good (record { these = w; readable = r .read .readable; in-range = s .in-range }) (r .read .number) (sym q ∙ s .number) (r .read .put) (rw q at (s .put))
+      good (record { these = says-all (says-then (r .read .these) (s .these)) h; readable = r .read .readable; in-range = s .in-range }) (r .read .number) (sym q ∙ s .number) (r .read .put) (rw q at (s .put))
   text-good (stopped s h g f) n e = let o : _≡_ {A = ℕ} 0 1 = cc in absurd (omega arith)
 
   -- the line at which the events stop
@@ -243,58 +251,77 @@ module _ {text pre pre′ : List ℕ} {a p end : ℕ} (r : NotesUpTo text pre pr
     unfolding front
     front-length = let x = r .read .number in let y = s .number in rw (length-append, length-map (r .read .notes) noteLine, length-map (s .es) eventLine) (omega arith)
 
-    whole : lines text ≡ front ++ (l ∷ more)
+    -- the lines before it, with the comments
+    before : Says text 0 at front
     unfolding front
-    whole = r .read .these ∙ rw (s .these, g, append-assoc)
+    before = says-then (r .read .these) (s .these)
 
-    whole-more : lines text ≡ (front ++ (l ∷ [])) ++ more
-    whole-more = whole ∙ rw append-assoc
+    whole : lines text ≡ before .between ++ (l ∷ more)
+    whole = before .splits ∙ ap (λ (ls : List (List ℕ)). before .between ++ ls) g
+
+    plain : isComment l ≡ false
+    plain = comment-line text at g ∙ s .stands .plain
+
+    stop-says : said (before .between ++ (l ∷ [])) ≡ front ++ (l ∷ [])
+    unfolding said
+    stop-says = said-append (before .between) (l ∷ []) ∙ rw (before .says, plain)
+
+    stop-number : lineOf (a + n + 1) (lines text) ≡ length (before .between) + 1
+    stop-number = let fl = front-length in let y = ap length (before .says) in rw whole (line-of-next (a + n + 1) (before .between) l more plain (omega arith))
 
     -- the first line after the notes is among those up to the stop
     first-after : (first : List ℕ) × (¬ IsNote first) × List·Memᴰ first (front ++ (l ∷ []))
     unfolding front
-    first-after = go (s .es) (s .these ∙ rw g)
+    first-after = go (s .es) (s .these)
       where
-        go : (es : Trace) → lines (drop end text) ≡ map eventLine es ++ (l ∷ more)
+        go : (es : Trace) → Says text end at (map eventLine es)
             → (first : List ℕ) × (¬ IsNote first) × List·Memᴰ first ((map noteLine (r .read .notes) ++ map eventLine es) ++ (l ∷ []))
-        go [] e = (l, r .stops l more e, Memᴰ·append-right (map noteLine (r .read .notes) ++ []) (List·Memᴰ·head refl))
+        go [] e = (l, r .stops l more (says-here (r .read .stands) e ∙ g), Memᴰ·append-right (map noteLine (r .read .notes) ++ []) (List·Memᴰ·head refl))
         go (v ∷ es) e = (
           eventLine v,
-          r .stops (eventLine v) (map eventLine es ++ (l ∷ more)) e,
+          λ n. event-apart v (n .text) (n .these),
           Memᴰ·append-left (l ∷ []) (Memᴰ·append-right (map noteLine (r .read .notes)) (List·Memᴰ·head refl)),
         )
 
-    stop-line : ReadsText text pre pre′ th th′ ki ki′ ob ob′ (Bad (a + n + 1))
+    stop-at : lineAt (length (before .between) + 1) text ≡ l
+    stop-at = rw whole (getD-at (before .between) l more [] (length (before .between) + 1 - 1) (omega arith))
+
+    stop-line : ReadsText text pre pre′ th th′ ki ki′ ob ob′ (Bad (length (before .between) + 1) (reasonOf l))
     unfolding front
     stop-line =
-        let fl = front-length in
-        let wl = ap length whole ∙ length-append front (l ∷ more) in
-        let t : take (a + n + 1 - 1) (lines text) ≡ front = rw whole (take-at front (l ∷ more) (a + n + 1 - 1) (omega arith)) in
-        let u : take (a + n + 1) (lines text) ≡ front ++ (l ∷ []) = rw whole-more (take-at (front ++ (l ∷ [])) more (a + n + 1) (let k = length-more front l in omega arith)) in
+        let k = length (before .between) in
+        let wl = ap length whole ∙ length-append (before .between) (l ∷ more) in
+        let w : lines text ≡ (before .between ++ (l ∷ [])) ++ more = whole ∙ rw append-assoc in
+        let t : take (k + 1 - 1) (lines text) ≡ before .between = rw whole (take-at (before .between) (l ∷ more) (k + 1 - 1) (omega arith)) in
+        let u : take (k + 1) (lines text) ≡ before .between ++ (l ∷ []) = rw w (take-at (before .between ++ (l ∷ [])) more (k + 1) (length-more (before .between) l)) in
         let m = first-after in
-        bad-line {n = a + n + 1} (record {
+        bad-line {n = k + 1} (record {
           notes = r .read .notes;
           es = s .es;
           least = omega arith;
           most = omega arith;
-          before = record { these = t; readable = r .read .readable; in-range = s .in-range };
-          none = λ notes es x. makes-none front l f (m .0) (m .1) (m .2) notes es (rw u at x);
+          before = record { these = ap said t ∙ before .says; readable = r .read .readable; in-range = s .in-range };
+          none = makes-none (take (k + 1) (lines text)) front l (ap said u ∙ stop-says) f (m .0) (m .1) (m .2);
         })
+        (ap reasonOf (sym stop-at))
         (r .read .put)
         (s .put)
 
-  pub text-bad : {v : Events} → ReadsEvents text end th th′ ki ki′ ob ob′ v → (n : ℕ) → v ≡ Stopped n → ReadsText text pre pre′ th th′ ki ki′ ob ob′ (Bad (a + n + 1))
-  text-bad (all s h) n e = let o : _≡_ {A = ℕ} 0 1 = cc in absurd (omega arith)
-  text-bad (stopped {n = m} s h g f) n e = let q : m ≡ n = cc in rw q at (stop-line s g f)
+  pub text-bad : {v : Events} → ReadsEvents text end th th′ ki ki′ ob ob′ v → (n at : ℕ) → v ≡ Stopped n at → (w : Text) → BadAt text (a + n + 1) at w → ReadsText text pre pre′ th th′ ki ki′ ob ob′ w
+  text-bad (all s h) n at e w b = let o : _≡_ {A = ℕ} 0 1 = cc in absurd (omega arith)
+  text-bad (stopped {n = m} {at = at′} {l = l} s h g f) n at e w (bad-at {n = k} {l = l′} {r = v} i j q) =
+      let x : n ≡ m = cc in
+      let y : lines (drop at text) ≡ lines (drop at′ text) = let z : at ≡ at′ = cc in rw z in
+      let same : l ≡ l′ = let z = sym g ∙ sym y ∙ j in cc in
+      let number : length (before s g f .between) + 1 ≡ k = sym (stop-number s g f) ∙ sym (rw x at i) in
+      let why : reasonOf l ≡ v = ap reasonOf same ∙ sym q in
+      rw (number, why) at (stop-line s g f)
 
-  -- the line's number is at most the number of bytes
-  stop-number : {v : Events} → ReadsEvents text end th th′ ki ki′ ob ob′ v → (n : ℕ) → v ≡ Stopped n → a + n + 1 ≤ length text
-  stop-number (all s h) n e = let o : _≡_ {A = ℕ} 0 1 = cc in absurd (omega arith)
-  stop-number (stopped {n = m} s h g f) n e = let q : m ≡ n = cc in let x = s .few in let y = r .read .few in omega arith
-
-  module _ {v : Events} (x : ReadsEvents text end th th′ ki ki′ ob ob′ v) (n : ℕ) (e : v ≡ Stopped n) (long : Fits w64 (length text)) where
-    pub stop-before : Fits w64 (a + n)
-    stop-before = let h = stop-number x n e in omega arith
-
-    pub stop-fits : Fits w64 (a + n + 1)
-    stop-fits = let h = stop-number x n e in omega arith
+  pub stop-there : {v : Events} → ReadsEvents text end th th′ ki ki′ ob ob′ v → (n at : ℕ) → v ≡ Stopped n at → StopsAt text a n at
+  stop-there (all s h) n at e = let o : _≡_ {A = ℕ} 0 1 = cc in absurd (omega arith)
+  stop-there (stopped {n = m} {at = at′} s h g f) n at e =
+      let z : at′ ≡ at = cc in
+      let q : m ≡ n = cc in
+      let x = s .few in
+      let y = r .read .few in
+      record { within = omega arith; few = omega arith }

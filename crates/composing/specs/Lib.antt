@@ -1,6 +1,4 @@
--- What a note line and an event line are, and what reading a line gives
-pub mod Lines
--- what the lines of a text make, and what reading a text gives
+-- What the lines of a text make, and what reading a text gives
 pub mod Texts
--- what the parts of both give
+-- what the parts of it give
 pub mod Parts

@@ -1,14 +1,16 @@
 -- What reading a text gives.
-use Prim.Native.Nat.{ℕ, _-_, _≤_}
+use Prim.Native.Nat.{ℕ, _+_, _-_, _≤_}
 use mathlib.Core.Path.{_≡_}
 use mathlib.Core.Bool.{cond}
 use mathlib.Core.List.{List, [], _∷_, _++_, map, List·Memᴰ}
-use lib.ListN.{length, take}
+use lib.ListN.{length, getD, take}
 use lib.Dec.{eqb}
 use Rattle.model.specs.Trace.{Event, Trace, threadList, kindList, objectList}
 use Rattle.format.specs.Readable.{lineFeed, Readable}
 use Rattle.appending.specs.Appended.{Appends}
-use Rattle.composing.specs.Lines.{noteLine, eventLine, InRange}
+use Rattle.wording.specs.Lines.{noteLine, eventLine, InRange, isComment}
+use Rattle.wording.specs.Reasons.{reasonOf}
+use Rattle.wording.specs.declared.Reason.{Reason}
 use Rattle.composing.specs.declared.Text.{Text}
 use Rattle.composing.specs.declared.Text.the-variants.{Bad, Good}
 
@@ -25,6 +27,24 @@ unfoldable pub lines : List ℕ → List (List ℕ)
 lines [] = []
 lines (b ∷ s) = cond (eqb b lineFeed) ([] ∷ lines s) (extend b (lines s))
 
+-- line n, from 1
+abbrev pub lineAt : ℕ → List ℕ → List ℕ
+lineAt n text = getD (lines text) (n - 1) []
+
+-- the lines that are no comments, in their order
+unfoldable pub said : List (List ℕ) → List (List ℕ)
+said [] = []
+said (l ∷ ls) = cond (isComment l) (said ls) (l ∷ said ls)
+
+-- the number of the line that is the m-th of those, with k lines before these; 0 where there is none
+abbrev pub lineFrom : ℕ → ℕ → List (List ℕ) → ℕ
+lineFrom k m [] = 0
+lineFrom k m (l ∷ ls) = cond (isComment l) (lineFrom (k + 1) m ls) (cond (eqb m 1) (k + 1) (lineFrom (k + 1) (m - 1) ls))
+
+-- lines are counted from 1, with the comments
+unfoldable pub lineOf : ℕ → List (List ℕ) → ℕ
+lineOf m ls = lineFrom 0 m ls
+
 -- ---- what a text says
 
 -- texts with a line feed between them
@@ -33,9 +53,9 @@ joined [] = []
 joined (t ∷ []) = t
 joined (t ∷ u ∷ l) = t ++ (lineFeed ∷ joined (u ∷ l))
 
--- lines that make a recording: note lines of these texts, then the lines of these events
+-- lines that make a recording: but for the comments, note lines of these texts, then the lines of these events
 pub record Makes (ls : List (List ℕ)) (notes : List (List ℕ)) (es : Trace) : Type 0 where
-  pub these : ls ≡ map noteLine notes ++ map eventLine es
+  pub these : said ls ≡ map noteLine notes ++ map eventLine es
   pub readable : (t : List ℕ) → List·Memᴰ t notes → Readable t
   pub in-range : (e : Event) → List·Memᴰ e es → InRange e
 
@@ -54,13 +74,13 @@ pub record FirstBad (text : List ℕ) (n : ℕ) : Type 0 where
   pub before : Makes (take (n - 1) (lines text)) notes es
   pub none : (other : List (List ℕ)) (more : Trace) → ¬ Makes (take n (lines text)) other more
 
--- what each answer means: the lines make a recording, or there is a first bad line; the preamble and the events of the lines, or of those before
+-- what each answer means: the lines make a recording, or there is a first bad line, with the reason; the preamble and the events of the lines, or of those before
 -- the bad one, stand in the front of what is lent, the rest of which is as it was
 pub data ReadsText (text pre pre′ th th′ ki ki′ ob ob′ : List ℕ) : Text → Type 0 where
   good : {notes : List (List ℕ)} {es : Trace} {a p n : ℕ} → Makes (lines text) notes es → a ≡ length notes → n ≡ length es
       → Appends (joined notes) 0 pre pre′ p → Listed es th th′ ki ki′ ob ob′ n → ReadsText text pre pre′ th th′ ki ki′ ob ob′ (Good a p n)
-  bad-line : {n p m : ℕ} (x : FirstBad text n) → Appends (joined (x .notes)) 0 pre pre′ p → Listed (x .es) th th′ ki ki′ ob ob′ m
-      → ReadsText text pre pre′ th th′ ki ki′ ob ob′ (Bad n)
+  bad-line : {n p m : ℕ} {r : Reason} (x : FirstBad text n) → r ≡ reasonOf (lineAt n text) → Appends (joined (x .notes)) 0 pre pre′ p → Listed (x .es) th th′ ki ki′ ob ob′ m
+      → ReadsText text pre pre′ th th′ ki ki′ ob ob′ (Bad n r)
 
 -- two answers are one, and what is lent holds the same in the end
 pub record Settled (r s : Text) (pre pre′ th th′ ki ki′ ob ob′ : List ℕ) : Type 0 where

@@ -1,44 +1,24 @@
-// Reads a recording from text: note lines, then event lines. No other crate reads such a text.
+// Reads a recording from text: note lines, then event lines, and comments anywhere. No other crate reads such a text.
 use format::NoteByte;
-use limits::Event;
+use wording::COMMENT;
+use wording::Line;
+use wording::NOTE_BYTES;
+use wording::Reason;
 ghost use mathlib.Core.Path.{_≡_};
 ghost use Prim.Native.Nat.{_+_, _≤_, _<_};
 ghost use lib.ListN.{length};
-ghost use Rattle.composing.specs.Lines.{Reads};
-ghost use Rattle.composing.specs.Texts.{Lent, ReadsText};
-ghost use Rattle.composing.specs.Parts.{noteBytes, NextLine, NotesUpTo, ListsLent, ReadsEvents, SaysNote, firstAt, digitsFrom, ReadsNumber, ReadsKind, ReadsAction, ReadsEvent};
+ghost use Rattle.composing.specs.Texts.{lines, lineOf, Lent, ReadsText};
+ghost use Rattle.composing.specs.Parts.{noteBytes, LineEnd, NextLine, Skips, NextSaid, NotesUpTo, ListsLent, ReadsEvents, StopsAt, BadAt};
 ghost use Rattle.appending.specs.Appended.{Appends};
 
-// The bytes of a note line before its text: the word and a space.
-const NOTE_BYTES: usize = 5;
-
-// What a line is. A note's text is the line without its first NOTE_BYTES bytes.
-pub enum Line {
-    Bad,
-    Note,
-    Event { thread: u8, kind: u8, object: u16 },
-}
-
-// What a text is: the number of its first bad line, or how many note lines, bytes of preamble and events it has.
+// What a text is: the number of its first bad line and why it is bad, or how many note lines, bytes of preamble and events it has.
 pub enum Text {
-    Bad(usize),
+    Bad(usize, Reason),
     Good {
         notes: usize,
         preamble: usize,
         events: usize,
     },
-}
-
-// What a word says as a number.
-pub enum Number {
-    Absent,
-    Value(u16),
-}
-
-// Where a line ends, and where the next begins.
-pub struct Span {
-    pub end: usize,
-    pub next: usize,
 }
 
 // The note lines at the front of a text: how many they are, the bytes of the preamble, and where the first other line begins.
@@ -48,160 +28,79 @@ pub struct Notes {
     pub end: usize,
 }
 
-// How many event lines there are, before another line or the end.
+// How many event lines there are, before another line, with where that begins, or the end.
 pub enum Events {
-    Stopped(usize),
+    Stopped(usize, usize),
     All(usize),
 }
 
-// The first place of a byte, or the end.
-fn first_at(s: &[u8], stop: u8) -> usize
-    ensures { λ r. ⌜ r ≡ firstAt stop (now (s .entry)) ⌝ }
-    ensures { λ r. ⌜ r ≤ length (now (s .entry)) ⌝ }
+// Where the line that begins at a place ends.
+fn line_end(text: &[u8], at: usize) -> usize
+    requires { ⌜ at < length (now text) ⌝ }
+    ensures { λ r. ⌜ LineEnd (now (text .entry)) at r ⌝ }
 {
-    let mut i = 0;
-    while i < s.len() {
-        if s[i] == stop {
-            return i;
-        }
-        i += 1;
-    }
-    i
+    at + wording::first_at(&text[at..], NoteByte::LINE_FEED)
 }
 
-// ---- a line
-
-fn is_note(line: &[u8]) -> bool
-    ensures { λ r. ⌜ SaysNote (now (line .entry)) r ⌝ }
+// Where the line after it begins, or the end.
+fn next_line(text: &[u8], at: usize) -> usize
+    requires { ⌜ at < length (now text) ⌝ }
+    ensures { λ r. ⌜ NextLine (now (text .entry)) at r ⌝ }
 {
-    if line.len() < NOTE_BYTES {
-        return false;
+    let end = line_end(text, at);
+    if end == text.len() {
+        return end;
     }
-    if !check::same(&line[..NOTE_BYTES], b"note ") {
-        return false;
-    }
-    format::readable(&line[NOTE_BYTES..])
+    end + 1
 }
 
-// The number that digits stand for.
-fn read_digits(s: &[u8]) -> Number
-    ensures { λ r. ⌜ r ≡ digitsFrom 0 (now (s .entry)) ⌝ }
+// Where the first line from a place on begins that is no comment, or the end.
+fn skip_comments(text: &[u8], from: usize) -> usize
+    requires { ⌜ from ≤ length (now text) ⌝ }
+    ensures { λ r. ⌜ Skips (now (text .entry)) from r ⌝ }
 {
-    let mut n = 0u32;
-    let mut i = 0;
-    while i < s.len() {
-        let b = s[i];
-        if b < b'0' {
-            return Number::Absent;
+    let mut at = from;
+    while at < text.len() {
+        if text[at] != COMMENT {
+            return at;
         }
-        if b'9' < b {
-            return Number::Absent;
-        }
-        n = n * 10 + (b - b'0') as u32;
-        if 65535 < n {
-            return Number::Absent;
-        }
-        i += 1;
+        at = next_line(text, at);
     }
-    Number::Value(n as u16)
+    at
 }
 
-// A number in decimal has a digit, and none that begins with 0 has another.
-fn read_number(s: &[u8]) -> Number
-    ensures { λ r. ⌜ ReadsNumber (now (s .entry)) r ⌝ }
+// The same behind the end of a line.
+fn next_said(text: &[u8], end: usize) -> usize
+    requires { ⌜ end ≤ length (now text) ⌝ }
+    ensures { λ r. ⌜ NextSaid (now (text .entry)) end r ⌝ }
 {
-    if s.len() == 0 {
-        return Number::Absent;
+    if end == text.len() {
+        return end;
     }
-    if s[0] != b'0' {
-        return read_digits(s);
-    }
-    if s.len() == 1 {
-        return Number::Value(0);
-    }
-    Number::Absent
+    skip_comments(text, end + 1)
 }
 
-// The kind of a word, or 0.
-fn read_kind(word: &[u8]) -> u8
-    ensures { λ r. ⌜ ReadsKind (now (word .entry)) r ⌝ }
+// The number of the line that is the m-th of those that are no comments, or 0.
+pub fn line_of(text: &[u8], m: usize) -> usize
+    ensures { λ r. ⌜ r ≡ lineOf m (lines (now (text .entry))) ⌝ }
 {
-    if check::same(word, b"read") {
-        return Event::READ;
-    }
-    if check::same(word, b"write") {
-        return Event::WRITE;
-    }
-    if check::same(word, b"acquire") {
-        return Event::ACQUIRE;
-    }
-    if check::same(word, b"release") {
-        return Event::RELEASE;
+    let mut seen = 0;
+    let mut number = 0usize;
+    let mut at = 0;
+    while at < text.len() {
+        let next = next_line(text, at);
+        number += 1;
+        if text[at] == COMMENT {
+            at = next;
+            continue;
+        }
+        seen += 1;
+        if seen == m {
+            return number;
+        }
+        at = next;
     }
     0
-}
-
-// An event line from its kind on.
-fn read_action(thread: u8, s: &[u8]) -> Line
-    ensures { λ r. ⌜ ReadsAction thread (now (s .entry)) r ⌝ }
-{
-    let end = first_at(s, b' ');
-    if end == s.len() {
-        return Line::Bad;
-    }
-    let kind = read_kind(&s[..end]);
-    if kind == 0 {
-        return Line::Bad;
-    }
-    match read_number(&s[end + 1..]) {
-        Number::Absent => Line::Bad,
-        Number::Value(object) => Line::Event {
-            thread,
-            kind,
-            object,
-        },
-    }
-}
-
-fn read_event(line: &[u8]) -> Line
-    ensures { λ r. ⌜ ReadsEvent (now (line .entry)) r ⌝ }
-{
-    let end = first_at(line, b' ');
-    if end == line.len() {
-        return Line::Bad;
-    }
-    match read_number(&line[..end]) {
-        Number::Absent => Line::Bad,
-        Number::Value(n) => {
-            if 255 < n {
-                return Line::Bad;
-            }
-            read_action(n as u8, &line[end + 1..])
-        }
-    }
-}
-
-pub fn read_line(line: &[u8]) -> Line
-    ensures { λ r. ⌜ Reads (now (line .entry)) r ⌝ }
-{
-    if is_note(line) {
-        return Line::Note;
-    }
-    read_event(line)
-}
-
-// ---- a text
-
-// The line that begins at a place.
-fn next_line(text: &[u8], at: usize) -> Span
-    requires { ⌜ at < length (now text) ⌝ }
-    ensures { λ r. ⌜ NextLine (now (text .entry)) at (r .end) (r .next) ⌝ }
-{
-    let end = at + first_at(&text[at..], NoteByte::LINE_FEED);
-    if end < text.len() {
-        return Span { end, next: end + 1 };
-    }
-    Span { end, next: end }
 }
 
 // Puts the text of a note line behind those of the note lines before it.
@@ -222,12 +121,11 @@ fn read_notes(text: &[u8], preamble: &mut [u8]) -> Notes
 {
     let mut lines = 0;
     let mut bytes = 0;
-    let mut at = 0;
+    let mut at = skip_comments(text, 0);
     while at < text.len() {
-        let span = next_line(text, at);
-        let end = span.end;
+        let end = line_end(text, at);
         let line = &text[at..end];
-        if !is_note(line) {
+        if !wording::is_note(line) {
             return Notes {
                 lines,
                 bytes,
@@ -236,7 +134,7 @@ fn read_notes(text: &[u8], preamble: &mut [u8]) -> Notes
         }
         bytes = put_note(preamble, bytes, lines, &line[NOTE_BYTES..]);
         lines += 1;
-        at = span.next;
+        at = next_said(text, end);
     }
     Notes {
         lines,
@@ -258,9 +156,8 @@ fn read_events(
     let mut n = 0;
     let mut at = from;
     while at < text.len() {
-        let span = next_line(text, at);
-        let end = span.end;
-        match read_line(&text[at..end]) {
+        let end = line_end(text, at);
+        match wording::read_line(&text[at..end]) {
             Line::Event {
                 thread,
                 kind,
@@ -270,13 +167,23 @@ fn read_events(
                 kinds[n] = kind;
                 objects[n] = object;
                 n += 1;
-                at = span.next;
+                at = next_said(text, end);
             }
-            Line::Note => return Events::Stopped(n),
-            Line::Bad => return Events::Stopped(n),
+            Line::Note => return Events::Stopped(n, at),
+            Line::Bad => return Events::Stopped(n, at),
         }
     }
     Events::All(n)
+}
+
+// The bad line that begins at a place, behind so many note lines and event lines.
+fn bad_line(text: &[u8], notes: usize, events: usize, at: usize) -> Text
+    requires { ⌜ StopsAt (now text) notes events at ⌝ }
+    ensures { λ r. ⌜ BadAt (now (text .entry)) (notes + events + 1) at r ⌝ }
+{
+    let n = line_of(text, notes + events + 1);
+    let end = line_end(text, at);
+    Text::Bad(n, wording::reason_of(&text[at..end]))
 }
 
 // Reads a text: the preamble and the events stand in the front of what is lent then.
@@ -293,7 +200,7 @@ pub fn read_text(
     let notes = read_notes(text, preamble);
     let end = notes.end;
     match read_events(text, end, threads, kinds, objects) {
-        Events::Stopped(n) => Text::Bad(notes.lines + n + 1),
+        Events::Stopped(n, at) => bad_line(text, notes.lines, n, at),
         Events::All(n) => Text::Good {
             notes: notes.lines,
             preamble: notes.bytes,

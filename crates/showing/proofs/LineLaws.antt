@@ -2,20 +2,21 @@
 use Prim.Native.Nat.{ℕ, zero, suc, _+_, _-_, _*_, _≤_, _<_}
 use native.Mathlib.Omega.{arith}
 use mathlib.Core.Path.{_≡_, refl, ap}
+use mathlib.Core.Bool.{false}
 use mathlib.Core.Logic.{_≢_, ⊎-elim}
-use mathlib.Core.List.{List, [], _∷_, _++_, map, map-append, append-assoc, List·Memᴰ, List·Memᴰ·head, List·Memᴰ·append-cases, Memᴰ·of-map}
+use mathlib.Core.List.{List, [], _∷_, _++_, map, map-append, append-assoc, List·Memᴰ, List·Memᴰ·head, List·Memᴰ·tail, List·Memᴰ·append-cases, Memᴰ·of-map}
 use lib.ListN.{length, getD, take, length-append}
 use lib.Seq.{take-suc, take-all}
 use lib.Dec.{eqb}
-use borrow.Author.Tests.{eqb-true, eqb-false}
+use borrow.Author.Tests.{eqb-true, eqb-false, ne-eqb}
 use Rattle.model.proofs.Tests.{by-cases}
 use Rattle.model.specs.Trace.{Event, Trace, Valid, noEvent, at, read, write, acquire}
 use Rattle.model.specs.Good.{Good}
 use Rattle.appending.specs.Decimal.{decimal, InDecimal}
 use Rattle.appending.proofs.DecimalLaws.{decimal-few, decimal-in}
-use Rattle.composing.specs.Lines.{noteWord, noteLine, kindWord, eventLine}
-use Rattle.composing.specs.Texts.{extend, lines}
-use Rattle.composing.proofs.FirstLaws.{first-rest, first-absent}
+use Rattle.wording.specs.Lines.{noteWord, noteLine, kindWord, eventLine, isComment}
+use Rattle.composing.specs.Texts.{extend, lines, said}
+use Rattle.wording.proofs.FirstLaws.{first-rest, first-absent}
 use Rattle.showing.specs.Shown.{notesOf, linesWith, textFrom, textWith}
 use Rattle.showing.specs.Pieces.{noteByte, noteBytes, notesText, eventText, eventsText, lineBytes}
 use Rattle.showing.proofs.TextLaws.{Whole, text-append, lines-some}
@@ -57,7 +58,8 @@ each-line P notes es f g l m =
 pub lines-with-whole : (notes : List (List ℕ)) (es : Trace) → ((t : List ℕ) → List·Memᴰ t notes → Whole t) → (l : List ℕ) → List·Memᴰ l (linesWith notes es) → Whole l
 lines-with-whole notes es w = each-line Whole notes es (λ t m. note-whole t (w t m)) event-whole
 
--- none begins with 23 hex
+-- ---- none is a comment
+
 digits-begin : {n : ℕ} (d rest : List ℕ) → InDecimal n d → getD (d ++ rest) 0 0 ≢ 35
 digits-begin [] rest i e = let h = ap length (i .leading refl) in omega arith
 digits-begin (x ∷ d) rest i e = let h = i .digits-only x (List·Memᴰ·head refl) in omega arith
@@ -66,8 +68,17 @@ event-begins : (e : Event) → getD (eventLine e) 0 0 ≢ 35
 unfolding eventLine
 event-begins e = digits-begin (decimal (e .thread)) (32 ∷ (kindWord (e .kind) ++ (32 ∷ decimal (e .object)))) (decimal-in (e .thread))
 
-pub lines-begin : (notes : List (List ℕ)) (es : Trace) (l : List ℕ) → List·Memᴰ l (linesWith notes es) → getD l 0 0 ≢ 35
-lines-begin notes es = each-line (λ (l : List ℕ). getD l 0 0 ≢ 35) notes es (λ t m e. omega arith) event-begins
+plain : (l : List ℕ) → getD l 0 0 ≢ 35 → isComment l ≡ false
+plain [] ne = refl
+plain (b ∷ l) ne = ne-eqb b 35 ne
+
+all-said : (ls : List (List ℕ)) → ((l : List ℕ) → List·Memᴰ l ls → isComment l ≡ false) → said ls ≡ ls
+unfolding said
+all-said [] f = refl
+all-said (l ∷ ls) f = rw (f l (List·Memᴰ·head refl), all-said ls (λ k m. f k (List·Memᴰ·tail m)))
+
+pub lines-said : (notes : List (List ℕ)) (es : Trace) → said (linesWith notes es) ≡ linesWith notes es
+lines-said notes es = all-said (linesWith notes es) (each-line (λ (l : List ℕ). isComment l ≡ false) notes es (λ t m. refl) (λ e. plain (eventLine e) (event-begins e)))
 
 -- ---- the note lines, byte by byte
 

@@ -15,7 +15,7 @@ use Rattle.appending.specs.Appended.{Appends, AppendsShort}
 use Rattle.appending.proofs.DecimalLaws.{decimal-few}
 use Rattle.appending.proofs.AppendLaws.{appends-nothing, appends-then}
 use Rattle.format.specs.Bytes.{traceIn}
-use Rattle.composing.specs.Lines.{noteWord, kindWord, eventLine}
+use Rattle.wording.specs.Lines.{noteWord, kindWord, eventLine}
 use Rattle.showing.specs.Shown.{textFrom}
 use Rattle.showing.specs.Pieces.{noteByte, noteBytes, notesText, spacedKind, eventText, eventTextAt, eventsText, lineBytes, GoodAt, EventsLent}
 use Rattle.showing.proofs.LineLaws.{bytes-append, no-notes, some-notes, word-few, events-next}

@@ -4,7 +4,7 @@ use native.Mathlib.Omega.{arith}
 use mathlib.Core.Path.{_≡_, refl, sym, _∙_, ap}
 use mathlib.Core.Logic.{_≢_}
 use mathlib.Core.Option.{Option, none, some}
-use mathlib.Core.List.{List, [], _∷_, map, List·Memᴰ, List·Memᴰ·not-nil, Memᴰ·map, Memᴰ·append-left}
+use mathlib.Core.List.{List, [], _∷_, map, List·Memᴰ, List·Memᴰ·head, List·Memᴰ·tail, List·Memᴰ·not-nil, Memᴰ·map, Memᴰ·append-left}
 use lib.ListN.{length, take, getD}
 use lib.Dec.{ltb}
 use borrow.Author.Tests.{le-ltb}
@@ -31,14 +31,14 @@ use Rattle.writing.specs.declared.Written.the-variants.{Refused as NotWritten, 
 use Rattle.writing.proofs.WriteLaws.{refused-no-bytes}
 use Rattle.writing.proofs.ReadsBack.{reads-back}
 use Rattle.writing.proofs.WritesAgain.{writes-again, plain-today}
-use Rattle.composing.specs.Lines.{noteLine, eventLine, InRange}
-use Rattle.composing.specs.Texts.{lines, joined, Makes}
-use Rattle.showing.specs.Shown.{notesOf, linesWith, textWith, textOf, textBytes, shown, Shows, answerShow}
+use Rattle.wording.specs.Lines.{noteLine, eventLine, InRange, isComment}
+use Rattle.composing.specs.Texts.{lines, said, joined, Makes}
+use Rattle.showing.specs.Shown.{notesOf, linesWith, textFrom, textWith, textOf, textBytes, shown, Shows, answerShow}
 use Rattle.showing.specs.RoundTrips.{MakesAgain, WhatIsShown, Ended, WhatIsComposed}
 use Rattle.showing.specs.declared.Shown.{Shown}
 use Rattle.showing.specs.declared.Shown.the-variants.{Text}
 use Rattle.showing.proofs.TextLaws.{Whole, lines-text, text-lines, lines-whole, joined-notes, notes-joined, joined-in, notes-whole}
-use Rattle.showing.proofs.LineLaws.{whole-note, lines-with-whole}
+use Rattle.showing.proofs.LineLaws.{whole-note, lines-with-whole, lines-said}
 use Rattle.showing.proofs.ShowLaws.{text-short}
 use Rattle.showing.proofs.ShowExact.{show-exactly}
 
@@ -68,7 +68,9 @@ module _ (s : List ℕ) (g : IsGoodFile s) where
   makes-notes : Makes (lines (textOf s)) (notesOf (preamble s)) (eventsOf s)
   unfolding textWith
   makes-notes = record {
-    these = lines-text (linesWith (notesOf (preamble s)) (eventsOf s)) (lines-with-whole (notesOf (preamble s)) (eventsOf s) (notes-whole (preamble s)));
+    these =
+        ap said (lines-text (linesWith (notesOf (preamble s)) (eventsOf s)) (lines-with-whole (notesOf (preamble s)) (eventsOf s) (notes-whole (preamble s))))
+        ∙ lines-said (notesOf (preamble s)) (eventsOf s);
     readable = notes-readable;
     in-range = in-range (eventsOf s) (g .good);
   }
@@ -120,14 +122,25 @@ module _ (s buffer : List ℕ) (n : ℕ) (after : List ℕ) where
       go (some r) q e = refused r e
       go none q e = by-cases (ltb (length buffer) (length s)) (λ h. refused ListShort (rw h at e)) (λ h. (q, given (rw h at e)))
 
--- a text whose lines are those of notes and events
-module _ (text : List ℕ) (notes : List (List ℕ)) (es : Trace) (these : lines text ≡ linesWith notes es) where
-  each-whole : (t : List ℕ) → List·Memᴰ t notes → Whole t
-  each-whole t i = whole-note t (lines-whole text (noteLine t) (rw these (Memᴰ·append-left (map eventLine es) (Memᴰ·map noteLine i))))
+-- what is said is a line
+said-in : (ls : List (List ℕ)) (l : List ℕ) → List·Memᴰ l (said ls) → List·Memᴰ l ls
+unfolding said
+said-in [] l m = absurd (List·Memᴰ·not-nil m)
+said-in (k ∷ ls) l m =
+    by-cases (isComment k) (λ e. let i : List·Memᴰ l (said ls) = rw e at m in List·Memᴰ·tail (said-in ls l i))
+    (λ e. let i : List·Memᴰ l (k ∷ said ls) = rw e at m in in-cons i List·Memᴰ·head (λ j. List·Memᴰ·tail (said-in ls l j)))
 
-  same-text : Ended text → notes ≢ [] ∷ [] → textWith (joined notes) es ≡ text
+-- a text whose lines are those of notes and events, but for the comments
+module _ (text : List ℕ) (notes : List (List ℕ)) (es : Trace) (these : said (lines text) ≡ linesWith notes es) (ne : notes ≢ [] ∷ []) where
+  each-whole : (t : List ℕ) → List·Memᴰ t notes → Whole t
+  each-whole t i = whole-note t (lines-whole text (noteLine t) (said-in (lines text) (noteLine t) (rw these (Memᴰ·append-left (map eventLine es) (Memᴰ·map noteLine i)))))
+
+  said-text : textWith (joined notes) es ≡ textFrom (said (lines text))
   unfolding textWith
-  same-text e ne = rw (notes-joined notes each-whole ne, ← these) (text-lines text e)
+  said-text = rw (notes-joined notes each-whole ne, these)
+
+  same-text : said (lines text) ≡ lines text → Ended text → textWith (joined notes) es ≡ text
+  same-text p e = said-text ∙ ap textFrom p ∙ text-lines text e
 
 -- the text of a file that was written is that of its preamble and events
 written-text : (p : List ℕ) (es : Trace) → textOf (fileWith p es) ≡ textWith p es
@@ -142,4 +155,4 @@ pub what-is-composed : WhatIsComposed
 what-is-composed text notes es m buffer n after e =
     let h = handed-good (fileWith (joined notes) es) buffer n after e in
     let d = h .1 in
-    record { shows = rw d (written-shown (joined notes) es (h .0)); same = same-text text notes es (m .these) }
+    record { shows = rw d (written-shown (joined notes) es (h .0)); said-again = said-text text notes es (m .these); same = same-text text notes es (m .these) }

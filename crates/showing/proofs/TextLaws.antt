@@ -10,8 +10,8 @@ use lib.Dec.{eqb}
 use borrow.Author.Tests.{eqb-true}
 use Rattle.model.proofs.Tests.{by-cases, in-cons}
 use Rattle.composing.specs.Texts.{extend, lines, joined}
-use Rattle.composing.specs.Parts.{firstAt}
-use Rattle.composing.proofs.FirstLaws.{first-rest}
+use Rattle.wording.specs.Parts.{firstAt}
+use Rattle.wording.proofs.FirstLaws.{first-rest}
 use Rattle.showing.specs.Shown.{notesOf, textFrom}
 use Rattle.showing.specs.RoundTrips.{Ended}
 

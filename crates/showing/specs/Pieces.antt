@@ -11,7 +11,7 @@ use Rattle.format.specs.Bytes.{traceIn}
 use Rattle.format.specs.Layout.{Placed}
 use Rattle.judging.specs.Judged.{IsGoodFile}
 use Rattle.limits.specs.declared.Recording.{Recording}
-use Rattle.composing.specs.Lines.{noteWord, noteLine, kindWord, eventLine}
+use Rattle.wording.specs.Lines.{noteWord, noteLine, kindWord, eventLine}
 use Rattle.showing.specs.Shown.{notesOf, textFrom, textBytes}
 
 -- a byte of a preamble in its note lines: behind a line feed the next of them begins

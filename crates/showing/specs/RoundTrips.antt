@@ -13,9 +13,9 @@ use Rattle.writing.specs.Written.{fileWith}
 use Rattle.writing.specs.RoundTrip.{AllBytes}
 use Rattle.writing.specs.Writing.{handed}
 use Rattle.writing.specs.declared.Written.the-variants.{Bytes}
-use Rattle.composing.specs.Texts.{lines, joined, Makes}
+use Rattle.composing.specs.Texts.{lines, said, joined, Makes}
 use Rattle.showing.specs.declared.Shown.the-variants.{Text}
-use Rattle.showing.specs.Shown.{notesOf, textWith, textBytes, shown, answerShow}
+use Rattle.showing.specs.Shown.{notesOf, textFrom, textWith, textBytes, shown, answerShow}
 
 -- ---- what is shown
 
@@ -35,11 +35,12 @@ WhatIsShown = (s : List ℕ) → AllBytes s → (out : List ℕ) (n : ℕ) (afte
 abbrev pub Ended : List ℕ → Type 0
 Ended text = (text ≡ []) ⊎ ((front : List ℕ) × (text ≡ front ++ (lineFeed ∷ [])))
 
--- the text of these notes and events is shown of the file s: it is the same text, where that is ended and its notes are not one empty note, whose
--- recording is that of no note
+-- the text of these notes and events is shown of the file s: it has the lines of the text that are no comments, where its notes are not one empty
+-- note, whose recording is that of no note. It is the same text where that has no comment and is ended
 pub record ShowsAgain (text : List ℕ) (notes : List (List ℕ)) (es : Trace) (s : List ℕ) : Type 0 where
   pub shows : (out : List ℕ) → textBytes ≤ length out → answerShow s out ≡ shown (textWith (joined notes) es) out
-  pub same : Ended text → notes ≢ [] ∷ [] → textWith (joined notes) es ≡ text
+  pub said-again : notes ≢ [] ∷ [] → textWith (joined notes) es ≡ textFrom (said (lines text))
+  pub same : notes ≢ [] ∷ [] → said (lines text) ≡ lines text → Ended text → textWith (joined notes) es ≡ text
 
 -- the second round trip: whatever was written of a text's notes and events
 abbrev pub WhatIsComposed : Type 0

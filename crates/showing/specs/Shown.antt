@@ -12,7 +12,7 @@ use Rattle.limits.specs.declared.Refusal.the-variants.{ListShort}
 use Rattle.format.specs.Readable.{lineFeed}
 use Rattle.format.specs.Layout.{preamble}
 use Rattle.judging.specs.Judged.{eventsOf, refusalOf, rowsOfFile}
-use Rattle.composing.specs.Lines.{noteLine, eventLine}
+use Rattle.wording.specs.Lines.{noteLine, eventLine}
 use Rattle.composing.specs.Texts.{lines}
 use Rattle.showing.specs.declared.Shown.{Shown}
 use Rattle.showing.specs.declared.Shown.the-variants.{Refused, Text}

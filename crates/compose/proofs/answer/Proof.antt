@@ -1,4 +1,4 @@
-use Rattle.compose.proofs.ComposeLaws.{recording-within, refused-notes}
+use Rattle.compose.proofs.ComposeLaws.{recording-within}
 use borrow.Author.Needs.{needs}
 use Rattle.compose.proofs.answer.Statement.{statement}
 use Rattle.compose.proofs.answer.Tie as tie
@@ -10,12 +10,9 @@ answer-spec =
     (λ c. search needs)
     (λ c κs. search needs)
     (λ c. search needs)
-    (λ c. search needs)
     (λ c κs. search needs)
     (λ c. search needs)
     (λ c κs. search needs)
-    (λ c. search needs)
-    (λ c κs. search (refused-notes, needs))
     (λ c. search needs)
     (λ c. search needs)
     (λ c. search needs)

@@ -1,5 +1,5 @@
 use Rattle.composing.proofs.AnswerLaws.{preamble-within, threads-within, kinds-within, objects-within}
-use Rattle.compose.proofs.ComposeLaws.{compose-bad, compose-good}
+use Rattle.compose.proofs.ComposeLaws.{notes-few, compose-bad, compose-good}
 use borrow.Author.Needs.{needs}
 use Rattle.compose.proofs.compose_text.Statement.{statement}
 use Rattle.compose.proofs.compose_text.Tie as tie
@@ -27,7 +27,7 @@ compose-text-spec =
     (λ c. search needs)
     (λ c. search needs)
     (λ c. search (objects-within, needs))
-    (λ c κs. search needs)
+    (λ c κs. search (notes-few, needs))
     (λ c. search (compose-bad, needs))
     (λ c. search needs)
     (λ c. search (compose-good, needs)))

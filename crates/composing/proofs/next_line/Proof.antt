@@ -7,11 +7,7 @@ pub next-line-spec : {M : Type 1} → statement M
 next-line-spec =
     tie.close
     (tie.spec
-    (λ c. search needs)
-    (λ c. search needs)
-    (λ c. search needs)
     (λ c κs. search needs)
+    (λ c. search (next-last, needs))
     (λ c. search needs)
-    (λ c. search needs)
-    (λ c. search (next-ended, needs))
-    (λ c. search (next-last, needs)))
+    (λ c. search (next-ended, needs)))

@@ -2,6 +2,7 @@ use Prim.Native.Nat.{_-_}
 use lib.ListN.{length}
 use Rattle.composing.specs.Parts.{EventsRead}
 use Rattle.composing.proofs.TextLaws.{events-start, events-all, events-bad, events-note, events-on}
+use Rattle.composing.proofs.SaidLaws.{said-less}
 use borrow.Author.Needs.{needs}
 use Rattle.composing.proofs.read_events.Statement.{statement}
 use Rattle.composing.proofs.read_events.Tie as tie
@@ -30,7 +31,8 @@ read-events-spec =
     (λ c. search needs)
     (λ c. search needs)
     (λ c. search needs)
-    (λ c. search needs)
+    (λ c κs. search needs)
+    (λ c. search (said-less, needs))
     (λ c. search (events-on, needs))
     (λ c. search needs)
     (λ c. search needs)

@@ -2,6 +2,7 @@ use Prim.Native.Nat.{_-_}
 use lib.ListN.{length}
 use Rattle.composing.specs.Parts.{NotesRead}
 use Rattle.composing.proofs.TextLaws.{notes-start, notes-over, notes-stop, note-five, note-room, notes-on}
+use Rattle.composing.proofs.SaidLaws.{said-less}
 use borrow.Author.Needs.{needs}
 use Rattle.composing.proofs.read_notes.Statement.{statement}
 use Rattle.composing.proofs.read_notes.Tie as tie
@@ -18,6 +19,7 @@ read-notes-spec =
     (tie.spec
     Inv-loop
     μ-loop
+    (λ c κs. search needs)
     (λ c. search (notes-start, needs))
     (λ c κs. search needs)
     (λ c. search needs)
@@ -31,7 +33,8 @@ read-notes-spec =
     (λ c. search needs)
     (λ c κs. search (note-room, needs))
     (λ c. search needs)
-    (λ c. search needs)
+    (λ c κs. search needs)
+    (λ c. search (said-less, needs))
     (λ c. search (notes-on, needs))
     (λ c. search needs)
     (λ c. search (notes-over, needs)))

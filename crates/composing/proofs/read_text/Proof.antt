@@ -1,4 +1,4 @@
-use Rattle.composing.proofs.TextLaws.{text-good, text-bad, stop-before, stop-fits}
+use Rattle.composing.proofs.TextLaws.{text-good, text-bad, stop-there}
 use borrow.Author.Needs.{needs}
 use Rattle.composing.proofs.read_text.Statement.{statement}
 use Rattle.composing.proofs.read_text.Tie as tie
@@ -10,8 +10,7 @@ read-text-spec =
     (λ c κs. search needs)
     (λ c κs. search needs)
     (λ c. search needs)
-    (λ c. search (stop-before, needs))
-    (λ c. search (stop-fits, needs))
+    (λ c κs. search (stop-there, needs))
     (λ c. search needs)
     (λ c. search needs)
     (λ c. search needs)

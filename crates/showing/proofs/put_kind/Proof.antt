@@ -1,4 +1,4 @@
-use Rattle.composing.specs.Lines.{kindWord}
+use Rattle.wording.specs.Lines.{kindWord}
 use Rattle.showing.proofs.PutLaws.{kind-is, kind-last}
 use borrow.Author.Needs.{needs}
 use Rattle.showing.proofs.put_kind.Statement.{statement}

@@ -1,0 +1,183 @@
+-- The ways through the reasons.
+use Prim.Native.Nat.{ℕ, _+_, _≤_, _<_}
+use native.Mathlib.Omega.{arith}
+use native.Mathlib.Numerals.{add-one}
+use mathlib.Core.Path.{_≡_, sym, _∙_}
+use mathlib.Core.Logic.{⊎-elim}
+use mathlib.Core.Bool.{Bool, true, false, cond, not, _&&_, _||_}
+use mathlib.Core.List.{List}
+use lib.ListN.{length, getD, take, drop, drop-of-length-le}
+use lib.Seq.{drop-cons}
+use lib.Dec.{eqb, ltb}
+use borrow.Author.Tests.{eq-eqb, ne-eqb, lt-ltb, le-ltb, le-leb, lt-leb, not-true, not-false}
+use Rattle.model.specs.Trace.{read, write, acquire, release}
+use Rattle.model.proofs.Tests.{by-cases, either-true, false-test}
+use Rattle.wording.specs.Lines.{readWord, writeWord, acquireWord, releaseWord, kindWord}
+use Rattle.wording.specs.Parts.{SaysNote, firstAt, ReadsKind}
+use Rattle.wording.specs.Reasons.{has, same, beginsNote, isNoteLine, isKindWord, allDigits, isNumber, leadsZero, numberReason, actionReason, wordReason, noteReason, reasonOf}
+use Rattle.wording.specs.declared.Reason.{Reason}
+use Rattle.wording.specs.declared.Reason.the-variants.{Empty, CarriageReturn, Tab, LateNote, NoteByte, Words, Kind, NoNumber, LeadingZero, TooLarge}
+use Rattle.wording.proofs.FirstLaws.{from, from-drop}
+use Rattle.wording.proofs.NoteLaws.{same-true, says-is}
+use Rattle.wording.proofs.LineLaws.{read-kind, read-no-kind}
+
+pub has-is : (s : List ℕ) (b i : ℕ) → i ≡ firstAt b s → ltb i (length s) ≡ has b s
+has-is s b i e = rw e
+
+-- ---- a kind's word
+
+pub word-known : (k : ℕ) → isKindWord (kindWord k) ≡ true
+unfolding kindWord same
+word-known k =
+    by-cases (eqb k read) (λ p. rw p)
+    (λ p. by-cases (eqb k write) (λ q. rw (p, q)) (λ q. by-cases (eqb k acquire) (λ r. rw (p, q, r)) (λ r. rw (p, q, r))))
+
+-- the kind of a word that is known
+pub known-word : (w : List ℕ) → isKindWord w ≡ true → (k : ℕ) × (read ≤ k) × (k ≤ release) × (w ≡ kindWord k)
+unfolding kindWord
+known-word w e =
+    ⊎-elim (λ p. (read, omega arith, omega arith, same-true w readWord p))
+    (λ f.
+    ⊎-elim (λ p. (write, omega arith, omega arith, same-true w writeWord p))
+    (λ g.
+    ⊎-elim (λ p. (acquire, omega arith, omega arith, same-true w acquireWord p)) (λ p. (release, omega arith, omega arith, same-true w releaseWord p))
+    (either-true (same w acquireWord) (same w releaseWord) g))
+    (either-true (same w writeWord) (same w acquireWord || same w releaseWord) f))
+    (either-true (same w readWord) (same w writeWord || (same w acquireWord || same w releaseWord)) e)
+
+-- ---- digits
+
+module _ (s : List ℕ) where
+  pub number-none : length s ≡ 0 → false ≡ isNumber s
+  number-none h = rw (eq-eqb _ _ h)
+
+  module _ (some : length s ≡ 0 → ⊥) (i : ℕ) (inv : allDigits s ≡ allDigits (drop i s)) where
+    some-is : isNumber s ≡ allDigits (drop i s)
+    some-is = rw (ne-eqb _ _ some) inv
+
+    module _ (h : i < length s) where
+      pub number-low : getD s i 0 < 48 → false ≡ isNumber s
+      unfolding allDigits
+      number-low l = sym (some-is ∙ rw (drop-cons s i 0 h, lt-leb _ _ l))
+
+      module _ (low : 48 ≤ getD s i 0) where
+        pub number-high : 57 < getD s i 0 → false ≡ isNumber s
+        unfolding allDigits
+        number-high l = sym (some-is ∙ rw (drop-cons s i 0 h, le-leb _ _ low, lt-leb _ _ l))
+
+        pub number-on : getD s i 0 ≤ 57 → allDigits s ≡ allDigits (drop (i + 1) s)
+        unfolding allDigits
+        number-on l = inv ∙ rw (drop-cons s i 0 h, le-leb _ _ low, le-leb _ _ l, add-one i)
+
+    pub number-over : length s ≤ i → true ≡ isNumber s
+    unfolding allDigits
+    number-over h = sym (some-is ∙ rw (drop-of-length-le s h))
+
+  pub zero-short : length s < 2 → false ≡ leadsZero s
+  zero-short h = rw (le-ltb 1 (length s) (omega arith))
+
+  pub zero-first : 2 ≤ length s → eqb (getD s 0 0) 48 ≡ leadsZero s
+  zero-first h = rw (lt-ltb 1 (length s) (omega arith))
+
+-- ---- two numbers
+
+module _ (x z : List ℕ) (a : Bool) (ea : a ≡ isNumber x) where
+  pub first-none : not a ≡ true → NoNumber ≡ numberReason x z
+  unfolding numberReason
+  first-none h = rw (← ea, not-true a h)
+
+  module _ (ha : not a ≡ false) (b : Bool) (eb : b ≡ isNumber z) where
+    pub second-none : not b ≡ true → NoNumber ≡ numberReason x z
+    unfolding numberReason
+    second-none h = rw (← ea, ← eb, not-false a ha, not-true b h)
+
+    module _ (hb : not b ≡ false) (c : Bool) (ec : c ≡ leadsZero x) where
+      pub first-zero : c ≡ true → LeadingZero ≡ numberReason x z
+      unfolding numberReason
+      first-zero h = rw (← ea, ← eb, ← ec, not-false a ha, not-false b hb, h)
+
+      module _ (hc : c ≡ false) (d : Bool) (ed : d ≡ leadsZero z) where
+        pub second-zero : d ≡ true → LeadingZero ≡ numberReason x z
+        unfolding numberReason
+        second-zero h = rw (← ea, ← eb, ← ec, ← ed, not-false a ha, not-false b hb, hc, h)
+
+        pub large : d ≡ false → TooLarge ≡ numberReason x z
+        unfolding numberReason
+        large h = rw (← ea, ← eb, ← ec, ← ed, not-false a ha, not-false b hb, hc, h)
+
+-- ---- words
+
+module _ (x s : List ℕ) (i : ℕ) (at-space : i ≡ firstAt 32 s) where
+  action-is : actionReason x s ≡ cond (ltb i (length s) && not (has 32 (from (i + 1) s))) (cond (isKindWord (take i s)) (numberReason x (from (i + 1) s)) Kind) Words
+  unfolding actionReason
+  action-is = rw (from-drop (i + 1) s, at-space)
+
+  pub action-one : i ≡ length s → Words ≡ actionReason x s
+  action-one h = sym (action-is ∙ rw (le-ltb i (length s) (omega arith)))
+
+  module _ (short : i ≤ length s) (ne : i ≡ length s → ⊥) (b : Bool) (eb : b ≡ has 32 (from (i + 1) s)) where
+    within : ltb i (length s) ≡ true
+    within = lt-ltb i (length s) (omega arith)
+
+    pub action-more : b ≡ true → Words ≡ actionReason x s
+    action-more h = sym (action-is ∙ rw (within, ← eb, h))
+
+    module _ (hb : b ≡ false) (k : ℕ) (r : ReadsKind (take i s) k) where
+      pub action-unknown : k ≡ 0 → Kind ≡ actionReason x s
+      action-unknown z =
+          let e : isKindWord (take i s) ≡ false = false-test (known-word (take i s)) (λ g. read-no-kind r z (g .0) (g .1) (g .2) (g .3)) in
+          sym (action-is ∙ rw (within, ← eb, hb, e))
+
+      pub action-numbers : (k ≡ 0 → ⊥) → (v : Reason) → v ≡ numberReason x (from (i + 1) s) → v ≡ actionReason x s
+      action-numbers nz v ev =
+          let e : isKindWord (take i s) ≡ true = rw (read-kind r nz .2) (word-known k) in
+          ev ∙ sym (action-is ∙ rw (within, ← eb, hb, e))
+
+module _ (line : List ℕ) (i : ℕ) (at-space : i ≡ firstAt 32 line) where
+  pub words-one : i ≡ length line → Words ≡ wordReason line
+  unfolding wordReason
+  words-one h = rw (← at-space, le-ltb i (length line) (omega arith))
+
+  pub words-more : i ≤ length line → (i ≡ length line → ⊥) → (v : Reason) → v ≡ actionReason (take i line) (from (i + 1) line) → v ≡ wordReason line
+  unfolding wordReason
+  words-more h ne v e = e ∙ rw (← at-space, lt-ltb i (length line) (omega arith), from-drop (i + 1) line)
+
+-- ---- a note line
+
+module _ (line : List ℕ) (a : Bool) (s : SaysNote line a) where
+  pub note-late : a ≡ true → LateNote ≡ noteReason line
+  unfolding noteReason
+  note-late h = rw (← says-is s, h)
+
+  module _ (ha : a ≡ false) (b : Bool) (eb : b ≡ beginsNote line) where
+    none : isNoteLine line ≡ false
+    none = sym (says-is s) ∙ ha
+
+    pub note-byte : b ≡ true → NoteByte ≡ noteReason line
+    unfolding noteReason
+    note-byte h = rw (none, ← eb, h)
+
+    pub note-words : b ≡ false → (v : Reason) → v ≡ wordReason line → v ≡ noteReason line
+    unfolding noteReason
+    note-words h v e = e ∙ rw (none, ← eb, h)
+
+-- ---- a line
+
+module _ (line : List ℕ) where
+  pub line-empty : length line ≡ 0 → Empty ≡ reasonOf line
+  unfolding reasonOf
+  line-empty h = rw (eq-eqb _ _ h)
+
+  module _ (ne : length line ≡ 0 → ⊥) (a : Bool) (ea : a ≡ has 13 line) where
+    pub line-return : a ≡ true → CarriageReturn ≡ reasonOf line
+    unfolding reasonOf
+    line-return h = rw (ne-eqb _ _ ne, ← ea, h)
+
+    module _ (ha : a ≡ false) (b : Bool) (eb : b ≡ has 9 line) where
+      pub line-tab : b ≡ true → Tab ≡ reasonOf line
+      unfolding reasonOf
+      line-tab h = rw (ne-eqb _ _ ne, ← ea, ← eb, ha, h)
+
+      pub line-note-reason : b ≡ false → (v : Reason) → v ≡ noteReason line → v ≡ reasonOf line
+      unfolding reasonOf
+      line-note-reason h v e = e ∙ rw (ne-eqb _ _ ne, ← ea, ← eb, ha, h)

@@ -1,0 +1,116 @@
+-- Why a line is bad: the first reason that applies to it, computed, and what a reason says of a line.
+use Prim.Native.Nat.{ℕ, _+_, _≤_, _<_}
+use mathlib.Core.Path.{_≡_}
+use mathlib.Core.Logic.{_≢_, _⊎_}
+use mathlib.Core.Bool.{Bool, true, false, cond, not, _&&_, _||_}
+use mathlib.Core.List.{List, [], _∷_, _++_, List·Memᴰ}
+use lib.ListN.{length, getD, take, drop}
+use lib.Dec.{eqb, ltb, leb}
+use Rattle.model.specs.Trace.{read, release}
+use Rattle.format.specs.Readable.{lowestByte, highestByte, isReadable}
+use Rattle.appending.specs.Decimal.{valueFrom}
+use Rattle.wording.specs.Lines.{noteWord, readWord, writeWord, acquireWord, releaseWord, kindWord, noteLine, IsNote}
+use Rattle.wording.specs.Parts.{firstAt}
+use Rattle.wording.specs.declared.Reason.{Reason}
+use Rattle.wording.specs.declared.Reason.the-variants.{Empty, CarriageReturn, Tab, LateNote, NoteByte, Words, Kind, NoNumber, LeadingZero, TooLarge}
+
+-- ---- the tests
+
+abbrev pub isEmpty : List ℕ → Bool
+isEmpty s = eqb (length s) 0
+
+-- has it this byte?
+abbrev pub has : ℕ → List ℕ → Bool
+has b s = ltb (firstAt b s) (length s)
+
+unfoldable pub same : List ℕ → List ℕ → Bool
+same [] [] = true
+same [] (c ∷ t) = false
+same (b ∷ s) [] = false
+same (b ∷ s) (c ∷ t) = eqb b c && same s t
+
+-- does it begin with "note ", and is what follows readable?
+abbrev pub beginsNote : List ℕ → Bool
+beginsNote line = same (take 5 line) noteWord
+
+abbrev pub isNoteLine : List ℕ → Bool
+isNoteLine line = beginsNote line && isReadable (drop 5 line)
+
+-- what stands before the first space, and behind it
+abbrev pub wordOf : List ℕ → List ℕ
+wordOf s = take (firstAt 32 s) s
+
+abbrev pub restOf : List ℕ → List ℕ
+restOf s = drop (firstAt 32 s + 1) s
+
+abbrev pub isKindWord : List ℕ → Bool
+isKindWord w = same w readWord || (same w writeWord || (same w acquireWord || same w releaseWord))
+
+-- is it a digit, and digits, at least one?
+abbrev pub isDigit : ℕ → Bool
+isDigit b = leb 48 b && leb b 57
+
+unfoldable pub allDigits : List ℕ → Bool
+allDigits [] = true
+allDigits (b ∷ s) = isDigit b && allDigits s
+
+abbrev pub isNumber : List ℕ → Bool
+isNumber s = not (isEmpty s) && allDigits s
+
+-- a 0, and another byte behind it
+abbrev pub leadsZero : List ℕ → Bool
+leadsZero s = ltb 1 (length s) && eqb (getD s 0 0) 48
+
+-- ---- the first reason that applies
+
+-- of the two words that are to be numbers
+unfoldable pub numberReason : List ℕ → List ℕ → Reason
+numberReason x z = cond (isNumber x && isNumber z) (cond (leadsZero x || leadsZero z) LeadingZero TooLarge) NoNumber
+
+-- of what stands behind the first word x: one space is in it, between a kind's word and a number
+unfoldable pub actionReason : List ℕ → List ℕ → Reason
+actionReason x s = cond (has 32 s && not (has 32 (restOf s))) (cond (isKindWord (wordOf s)) (numberReason x (restOf s)) Kind) Words
+
+-- of the words
+unfoldable pub wordReason : List ℕ → Reason
+wordReason line = cond (has 32 line) (actionReason (wordOf line) (restOf line)) Words
+
+-- of a note line
+unfoldable pub noteReason : List ℕ → Reason
+noteReason line = cond (isNoteLine line) LateNote (cond (beginsNote line) NoteByte (wordReason line))
+
+-- of a line
+unfoldable pub reasonOf : List ℕ → Reason
+reasonOf line = cond (isEmpty line) Empty (cond (has 13 line) CarriageReturn (cond (has 9 line) Tab (noteReason line)))
+
+-- ---- what a reason says of a line
+
+-- three words, with one space between them
+pub record ThreeWords (line x y z : List ℕ) : Type 0 where
+  pub these : line ≡ x ++ (32 ∷ (y ++ (32 ∷ z)))
+  pub first : ¬ List·Memᴰ 32 x
+  pub second : ¬ List·Memᴰ 32 y
+  pub third : ¬ List·Memᴰ 32 z
+
+-- at least one digit, and nothing else
+pub record Digits (s : List ℕ) : Type 0 where
+  pub some : s ≢ []
+  pub all : (d : ℕ) → List·Memᴰ d s → (48 ≤ d) × (d ≤ 57)
+
+-- a 0 with another byte behind it
+pub record LeadsZero (s : List ℕ) : Type 0 where
+  pub next : ℕ
+  pub more : List ℕ
+  pub these : s ≡ 48 ∷ next ∷ more
+
+pub data Tells (line : List ℕ) : Reason → Type 0 where
+  empty : line ≡ [] → Tells line Empty
+  carriage-return : List·Memᴰ 13 line → Tells line CarriageReturn
+  tab : List·Memᴰ 9 line → Tells line Tab
+  late-note : IsNote line → Tells line LateNote
+  note-byte : {text : List ℕ} {b : ℕ} → line ≡ noteLine text → List·Memᴰ b text → (b < lowestByte) ⊎ (highestByte < b) → Tells line NoteByte
+  words : ((x y z : List ℕ) → ¬ ThreeWords line x y z) → Tells line Words
+  kind : {x y z : List ℕ} → ThreeWords line x y z → ((k : ℕ) → read ≤ k → k ≤ release → y ≢ kindWord k) → Tells line Kind
+  no-number : {x y z : List ℕ} → ThreeWords line x y z → (¬ Digits x) ⊎ (¬ Digits z) → Tells line NoNumber
+  leading-zero : {x y z : List ℕ} → ThreeWords line x y z → LeadsZero x ⊎ LeadsZero z → Tells line LeadingZero
+  too-large : {x y z : List ℕ} → ThreeWords line x y z → Digits x → Digits z → (255 < valueFrom 0 x) ⊎ (65535 < valueFrom 0 z) → Tells line TooLarge
