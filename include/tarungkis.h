@@ -126,8 +126,10 @@ uint64_t tarungkis_write_file(const uint8_t *preamble, size_t preamble_bytes, co
  *     uint32_t place[4] = {0};
  *     while ((n = tarungkis_report(file, file_bytes, place, out, sizeof out)) > 0) fwrite(out, 1, n, stdout);
  *
- * 0 where nothing is left to write (place[0] is 2 then), where `out` has fewer than TARUNGKIS_LINE_BYTES bytes, or where `place` is none that this
- * function or the start gives; then nothing changes. The bytes of `out` behind those written are left as they were. */
+ * It gives 0, and changes nothing, where nothing is left to write (place[0] is 2 then), where `out` has fewer than TARUNGKIS_LINE_BYTES bytes, and
+ * where the words are no place in a report: place[0] above 1, place[1] or place[2] above 65,535, or place[3] above 262,144. The words are what comes
+ * next (0 the first line, 1 a race or the last line), the pair after which the next race comes, and how many races were written. The bytes of `out`
+ * behind those written are left as they were. */
 size_t tarungkis_report(const uint8_t *file, size_t file_bytes, uint32_t place[4], uint8_t *out, size_t out_bytes);
 
 #ifdef __cplusplus

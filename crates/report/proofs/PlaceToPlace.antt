@@ -105,6 +105,7 @@ module _ (s : List ℕ) where
   good : refusalOf s ≡ none → Good (eventsOf s)
   good e = meaning s none .0 e .good
 
+  -- its report comes to this position
   abbrev Comes : ℕ → Position → Type 0
   Comes n q = Reached (refusalOf s) (eventsOf s) n q
 

@@ -7,22 +7,22 @@ use mathlib.Core.Logic.{_≢_, inl}
 use mathlib.Core.Option.{Option, none, some}
 use mathlib.Core.List.{List, [], _∷_, _++_, append-nil}
 use lib.ListN.{length, length-append, length-reverse}
+use lib.Dec.{ltb}
+use borrow.Author.Tests.{eq-eqb, ne-eqb, lt-ltb, le-ltb}
 use Rattle.model.specs.Trace.{Trace}
 use Rattle.model.specs.Lists.{upTo, numbers, pair}
 use Rattle.model.specs.Good.{WellFormed, maxEvents}
 use Rattle.model.specs.Listing.{Race, pairOf}
+use Rattle.decision.specs.Order.{isAfter, restAfter}
 use Rattle.decision.specs.Decision.{witness, isConflicting, raceWith, each, pairOn, conflictingPairs, races, nextRace}
 use Rattle.model.proofs.Tests.{by-cases}
 use Rattle.decision.proofs.OrderExact.{all-after, none-after, first-rest}
 use Rattle.decision.proofs.ListingExact.{races-listing}
 use Rattle.lines.specs.Lines.{raceLine, racesLine}
-use Rattle.decision.specs.Order.{isAfter, restAfter}
-use Rattle.report.specs.Report.{firstLine}
-use Rattle.report.specs.Rest.{Line, fill, atStart, behindFirst, behindRace, racesLeft, racesFrom, linesFrom}
-use Rattle.report.specs.Writing.{Countable}
-use lib.Dec.{ltb}
 use Rattle.lines.specs.Room.{lineBytes}
-use borrow.Author.Tests.{eq-eqb, ne-eqb, lt-ltb, le-ltb}
+use Rattle.report.specs.Report.{firstLine}
+use Rattle.report.specs.Rest.{Line, atStart, behindFirst, behindRace, racesLeft, racesFrom, linesFrom, fill}
+use Rattle.report.specs.Writing.{Countable}
 use Rattle.report.specs.declared.Position.{Position}
 
 -- ---- how many races there may be
@@ -85,27 +85,6 @@ module _ (t : Trace) (p : Position) where
   unfolding Countable racesLeft
   first-countable c = c
 
--- ---- lines in a buffer
-
-module _ (room : ℕ) (x : Line) (l : List Line) where
-  -- no further line surely fits
-  pub fill-stops : room - length (x .bytes) < lineBytes → fill room (x ∷ l) ≡ (x .bytes, x .behind)
-  fill-stops h = rw (lt-ltb (room - length (x .bytes)) lineBytes h)
-
-  -- one does
-  pub fill-goes : lineBytes ≤ room - length (x .bytes)
-      → fill room (x ∷ l) ≡ (x .bytes ++ fill (room - length (x .bytes)) l .0, fill (room - length (x .bytes)) l .1)
-  fill-goes h = rw (le-ltb (room - length (x .bytes)) lineBytes h)
-
--- the last line
-pub fill-last : (room : ℕ) (b : List ℕ) → fill room (record { bytes = b; behind = none } ∷ []) ≡ (b, none)
-fill-last room b =
-    by-cases (ltb (room - length b) lineBytes)
-    (λ e. rw e)
-    (λ e. rw (e, append-nil))
-
--- ---- race by race
-
 module _ (t : Trace) (w : WellFormed t) where
   pub start-left : racesLeft t atStart ≡ races t
   unfolding racesLeft
@@ -138,3 +117,22 @@ module _ (t : Trace) (w : WellFormed t) where
       pub race-countable : Countable t p → (p .count + 1 < 4294967296) × Countable t next-position
       unfolding Countable
       race-countable c = let n = ap length one-left in (omega arith, omega arith)
+
+-- ---- lines in a buffer
+
+module _ (room : ℕ) (x : Line) (l : List Line) where
+  -- behind the first no further line surely fits
+  pub fill-stops : room - length (x .bytes) < lineBytes → fill room (x ∷ l) ≡ (x .bytes, x .behind)
+  fill-stops h = rw (lt-ltb (room - length (x .bytes)) lineBytes h)
+
+  -- or one does
+  pub fill-goes : lineBytes ≤ room - length (x .bytes)
+      → fill room (x ∷ l) ≡ (x .bytes ++ fill (room - length (x .bytes)) l .0, fill (room - length (x .bytes)) l .1)
+  fill-goes h = rw (le-ltb (room - length (x .bytes)) lineBytes h)
+
+-- the last line
+pub fill-last : (room : ℕ) (b : List ℕ) → fill room (record { bytes = b; behind = none } ∷ []) ≡ (b, none)
+fill-last room b =
+    by-cases (ltb (room - length b) lineBytes)
+    (λ e. rw e)
+    (λ e. rw (e, append-nil))

@@ -20,7 +20,7 @@ use Rattle.report.specs.declared.Progress.the-variants.{Ended, More}
 unfoldable pub Countable : Trace → Position → Type 0
 Countable t p = p .count + length (racesLeft t p) < 4294967296
 
--- a table with its links, and room for a line
+-- a table with its links, a position, and room for a line
 pub record Starting (table : List ℕ) (p : Position) (out : List ℕ) : Type 0 where
   pub links : Linked table
   pub countable : Countable (trace table) p
@@ -43,7 +43,7 @@ abbrev pub nextOf : Progress → Option Position
 nextOf (Ended n) = none
 nextOf (More n p) = some p
 
--- both in numbers
+-- as they are handed out: how many bytes, and the place
 abbrev pub placed : Progress → ℕ × List ℕ
 placed w = (bytesOf w, placeOf (nextOf w))
 

@@ -191,7 +191,7 @@ fn position_of(place: &[u32; 4]) -> Position
     }
 }
 
-// The words of where to go on; how many bytes are in use.
+// Puts the words of where to go on; gives how many bytes are in use.
 fn put_place(place: &mut [u32; 4], w: Progress) -> usize
     ensures { λ r. ⌜ (r, now (place .exit)) ≡ placed w ⌝ }
 {
