@@ -52,7 +52,7 @@ module _ (text : List ℕ) {n : ℕ} (x : FirstBad text n) where
   pub bad-note : IsNote (lineAt n text) → x .es ≢ []
   bad-note i e =
       x .none (x .notes ++ (i .text ∷ [])) [] (record {
-        these = says-line ∙ rw (e, append-nil, i .these, map-append, append-nil);
+        these = says-line ∙ rw (e, append-nil (map noteLine (x .notes)), i .these, map-append, append-nil);
         readable = all-more (λ (t : List ℕ). Readable t) (x .notes) (i .text) (x .before .readable) (i .readable);
         in-range = λ v m. absurd (List·Memᴰ·not-nil m);
       })

@@ -23,6 +23,7 @@ isEmpty s = eqb (length s) 0
 abbrev pub has : ℕ → List ℕ → Bool
 has b s = ltb (firstAt b s) (length s)
 
+-- the same bytes?
 unfoldable pub same : List ℕ → List ℕ → Bool
 same [] [] = true
 same [] (c ∷ t) = false
@@ -43,6 +44,7 @@ wordOf s = take (firstAt 32 s) s
 abbrev pub restOf : List ℕ → List ℕ
 restOf s = drop (firstAt 32 s + 1) s
 
+-- is it the word of a kind?
 abbrev pub isKindWord : List ℕ → Bool
 isKindWord w = same w readWord || (same w writeWord || (same w acquireWord || same w releaseWord))
 
@@ -61,25 +63,25 @@ isNumber s = not (isEmpty s) && allDigits s
 abbrev pub leadsZero : List ℕ → Bool
 leadsZero s = ltb 1 (length s) && eqb (getD s 0 0) 48
 
--- ---- the first reason that applies
+-- ---- the first reason that applies, from the last on
 
--- of the two words that are to be numbers
+-- of the first and the third word, which are to be numbers
 unfoldable pub numberReason : List ℕ → List ℕ → Reason
 numberReason x z = cond (isNumber x && isNumber z) (cond (leadsZero x || leadsZero z) LeadingZero TooLarge) NoNumber
 
--- of what stands behind the first word x: one space is in it, between a kind's word and a number
+-- of the first word, and of what stands behind it: a kind's word, a space and the third word
 unfoldable pub actionReason : List ℕ → List ℕ → Reason
 actionReason x s = cond (has 32 s && not (has 32 (restOf s))) (cond (isKindWord (wordOf s)) (numberReason x (restOf s)) Kind) Words
 
--- of the words
+-- of a line's words
 unfoldable pub wordReason : List ℕ → Reason
 wordReason line = cond (has 32 line) (actionReason (wordOf line) (restOf line)) Words
 
--- of a note line
+-- of a line that has bytes, and no carriage return and no tab
 unfoldable pub noteReason : List ℕ → Reason
 noteReason line = cond (isNoteLine line) LateNote (cond (beginsNote line) NoteByte (wordReason line))
 
--- of a line
+-- of any line
 unfoldable pub reasonOf : List ℕ → Reason
 reasonOf line = cond (isEmpty line) Empty (cond (has 13 line) CarriageReturn (cond (has 9 line) Tab (noteReason line)))
 
@@ -103,6 +105,7 @@ pub record LeadsZero (s : List ℕ) : Type 0 where
   pub more : List ℕ
   pub these : s ≡ 48 ∷ next ∷ more
 
+-- what each says
 pub data Tells (line : List ℕ) : Reason → Type 0 where
   empty : line ≡ [] → Tells line Empty
   carriage-return : List·Memᴰ 13 line → Tells line CarriageReturn

@@ -1,4 +1,4 @@
-// Reads a line of a recording as text: a note line or an event line. No other crate looks into a line.
+// Reads a line of a recording as text, a note line or an event line, and says why a bad one is bad. No other crate looks into a line, but for a comment's first byte.
 use limits::Event;
 ghost use mathlib.Core.Path.{_≡_};
 ghost use Prim.Native.Nat.{_≤_};
@@ -20,16 +20,18 @@ pub enum Line {
     Event { thread: u8, kind: u8, object: u16 },
 }
 
-// Why a line is bad, in the order in which they are looked for.
+// Why a line is bad: the reasons, in the order in which they are looked for.
 pub enum Reason {
     Empty,
     CarriageReturn,
     Tab,
     // a good note line, which stands after an event line
     LateNote,
+    // a note's text has a byte that no note may have
     NoteByte,
-    // not three, with one space between two
+    // they are not three with one space between them
     Words,
+    // the second word; the others are those of the first or the third
     Kind,
     NoNumber,
     LeadingZero,
