@@ -41,10 +41,13 @@ int main(void) {
   holds("the entries", memcmp(list, writes, sizeof writes) == 0);
   expect("verdict", tarungkis_verdict(q, sizeof q, 1, 8, list, 10, area, sizeof area), TARUNGKIS_REPORTED, 3, 0);
   holds("the witness", memcmp(list, good, sizeof good) == 0 && memcmp(list + 3, writes + 3, 7 * sizeof *list) == 0);
+  area[0] = area[TARUNGKIS_AREA_BYTES - 1] = 7;
   expect("no pair", tarungkis_verdict(q, sizeof q, 8, 1, list, 10, area, sizeof area), TARUNGKIS_NOT_CONFLICTING, 0, 0);
   expect("short list", tarungkis_verdict(q, sizeof q, 1, 8, list, 7, area, sizeof area), TARUNGKIS_LIST_SHORT, 0, 0);
   expect("short area", tarungkis_verdict(q, sizeof q, 1, 8, list, 8, area, sizeof area - 1), TARUNGKIS_AREA_SHORT, 0, 0);
+  holds("a refusal changes nothing", memcmp(list, good, sizeof good) == 0 && area[0] == 7 && area[TARUNGKIS_AREA_BYTES - 1] == 7);
   expect("next race", tarungkis_next_race(q, sizeof q, 0, 0, area, sizeof area), TARUNGKIS_RACE, 1, 8);
+  holds("the area is zero", area[0] == 0 && area[TARUNGKIS_AREA_BYTES - 1] == 0);
   expect("no race", tarungkis_next_race(q, sizeof q, 1, 8, area, sizeof area), TARUNGKIS_NO_RACE, 0, 0);
   expect("check", tarungkis_check_reordering(q, sizeof q, 1, 8, good, 3), TARUNGKIS_YES, 0, 0);
   expect("fault", tarungkis_check_reordering(q, sizeof q, 1, 8, good, 2), TARUNGKIS_NO, TARUNGKIS_HIGHER_NOT_ENABLED, 0);

@@ -4,7 +4,7 @@
 
 #![allow(dead_code)]
 
-extern "C" {
+unsafe extern "C" {
     fn tarungkis_judge(file: *const u8, bytes: usize) -> u64;
     fn tarungkis_observed_write(file: *const u8, bytes: usize, k: u16) -> u64;
     fn tarungkis_observed_writes(

@@ -5,6 +5,7 @@
 #[path = "../bindings/tarungkis.rs"]
 mod tarungkis;
 
+use std::io::Write;
 use std::process::ExitCode;
 use tarungkis::{Check, Place, Refusal};
 
@@ -70,6 +71,9 @@ fn main() -> ExitCode {
         eprintln!("verdict: the library's report is another");
         return ExitCode::from(2);
     }
-    print!("{text}");
+    if std::io::stdout().write_all(text.as_bytes()).is_err() {
+        eprintln!("verdict: cannot write the report");
+        return ExitCode::from(2);
+    }
     ExitCode::from(status)
 }

@@ -9,9 +9,10 @@
  * - A pointer and the length behind it, in elements, are one place. It is read or written within that length only. Where the length is 0 the
  *   pointer is not looked at, and NULL will do. A pointer to uint16_t or uint32_t must be aligned for it.
  * - Places that are `const` may overlap each other. A place that is not must overlap no other place of the call.
- * - The call must not be made while another thread writes to one of its places.
+ * - While the call goes on, no other thread may write to a place that is `const`, nor read or write one that is not.
  * - What is left in a place is said with each function. A refusal changes nothing.
- * - Stack: TARUNGKIS_STACK_BYTES are enough for any call (bench/stack measures it).
+ * - Stack: TARUNGKIS_STACK_BYTES are enough for any call. The report takes most; bench/stack measures what it needs, some 300,000 bytes with the
+ *   example's own arrays.
  */
 #ifndef TARUNGKIS_H
 #define TARUNGKIS_H
@@ -120,15 +121,17 @@ uint64_t tarungkis_note(const uint8_t *file, size_t file_bytes);
 uint64_t tarungkis_write_file(const uint8_t *preamble, size_t preamble_bytes, const uint8_t *threads, size_t thread_entries, const uint8_t *kinds,
                               size_t kind_entries, const uint16_t *objects, size_t object_entries, uint8_t *buffer, size_t buffer_bytes);
 
-/* ---- the report, block by block: the next lines of a recording's report, as many as surely fit, in the front of `out`; gives how many bytes they
- * are. `place` says where to go on, and is moved behind them; four zeros are the start. So this writes a whole report, whatever its length:
+/* ---- the report, block by block: the next lines of a recording's report in the front of `out`; gives how many bytes they are. After each line a
+ * further one is written only while TARUNGKIS_LINE_BYTES are free, in which any line fits. `place` points to four words that say where to go on, and
+ * these are moved behind what was written; four zeros are the start. So this writes a whole report, whatever its length:
  *
  *     uint32_t place[4] = {0};
  *     while ((n = tarungkis_report(file, file_bytes, place, out, sizeof out)) > 0) fwrite(out, 1, n, stdout);
  *
  * It gives 0, and changes nothing, where nothing is left to write (place[0] is 2 then), where `out` has fewer than TARUNGKIS_LINE_BYTES bytes, and
  * where the words are no place in a report: place[0] above 1, place[1] or place[2] above 65,535, or place[3] above 262,144. The words are what comes
- * next (0 the first line, 1 a race or the last line), the pair after which the next race comes, and how many races were written. The bytes of `out`
+ * next (0 the first line, 1 a race or the last line), the pair after which the next race comes, and how many races were written. Of a refused file
+ * the one line is written at any place. (From a place that no start leads to, the count may grow beyond 262,144; then it is no place any more.) The bytes of `out`
  * behind those written are left as they were. */
 size_t tarungkis_report(const uint8_t *file, size_t file_bytes, uint32_t place[4], uint8_t *out, size_t out_bytes);
 

@@ -89,7 +89,7 @@ noteOfOperator = 112
 abbrev pub written : ℕ
 written = 113
 
--- is it the answer of this case?
+-- x where the parts are of this case, and y where they are not
 module _ {A : Type 0} where
   abbrev pub inCase : ℕ → Parts → A → A → A
   inCase c p x y = cond (eqb (p .case) c) x y

@@ -41,7 +41,7 @@ eventsText es = textFrom (map eventLine es)
 abbrev pub eventTextAt : List ℕ → ℕ → List ℕ
 eventTextAt ev k = eventText (at (traceIn ev) k)
 
--- the most bytes of an event's line: six for each byte of the event
+-- no event's line is longer: six for each byte of the event
 abbrev pub lineBytes : ℕ
 lineBytes = 24
 
