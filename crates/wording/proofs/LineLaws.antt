@@ -68,7 +68,7 @@ module _ (s : List ℕ) (i : ℕ) (at-space : i ≡ firstAt 32 s) (x y : List �
   pub space-within : i < length s
   space-within = let e = space-at in rw (these, length-append) (omega arith)
 
-  before-space : take i s ≡ x
+  pub before-space : take i s ≡ x
   before-space = rw these (take-at x (32 ∷ y) i (sym space-at))
 
   pub after-space : drop (i + 1) s ≡ y

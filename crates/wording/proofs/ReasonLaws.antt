@@ -1,20 +1,20 @@
 -- The ways through the reasons.
-use Prim.Native.Nat.{ℕ, _+_, _≤_, _<_}
+use Prim.Native.Nat.{ℕ, _+_, _-_, _≤_, _<_}
 use native.Mathlib.Omega.{arith}
 use native.Mathlib.Numerals.{add-one}
 use mathlib.Core.Path.{_≡_, sym, _∙_}
 use mathlib.Core.Logic.{⊎-elim}
-use mathlib.Core.Bool.{Bool, true, false, cond, not, _&&_, _||_}
+use mathlib.Core.Bool.{Bool, true, false, cond, not, _&&_, _||_, and-false}
 use mathlib.Core.List.{List}
-use lib.ListN.{length, getD, take, drop, drop-of-length-le}
-use lib.Seq.{drop-cons}
+use lib.ListN.{length, getD, take, drop, length-drop, drop-of-length-le}
+use lib.Seq.{drop-cons, length-take-le}
 use lib.Dec.{eqb, ltb}
 use borrow.Author.Tests.{eq-eqb, ne-eqb, lt-ltb, le-ltb, le-leb, lt-leb, not-true, not-false}
 use Rattle.model.specs.Trace.{read, write, acquire, release}
-use Rattle.model.proofs.Tests.{by-cases, either-true, false-test}
+use Rattle.model.proofs.Tests.{by-cases, true-both, either-true, false-test}
 use Rattle.wording.specs.Lines.{readWord, writeWord, acquireWord, releaseWord, kindWord}
 use Rattle.wording.specs.Parts.{SaysNote, firstAt, ReadsKind}
-use Rattle.wording.specs.Reasons.{has, same, beginsNote, isNoteLine, isKindWord, allDigits, isNumber, leadsZero, numberReason, actionReason, wordReason, noteReason, reasonOf}
+use Rattle.wording.specs.Reasons.{has, same, beginsNote, isNoteLine, isWord, beginsWord, isKindWord, allDigits, leadsZero, numberReason, actionReason, wordReason, noteReason, reasonOf}
 use Rattle.wording.specs.declared.Reason.{Reason}
 use Rattle.wording.specs.declared.Reason.the-variants.{Empty, CarriageReturn, Tab, LateNote, NoteByte, Words, Kind, NoNumber, LeadingZero, TooLarge}
 use Rattle.wording.proofs.FirstLaws.{from, from-drop}
@@ -48,30 +48,24 @@ known-word w e =
 -- ---- digits
 
 module _ (s : List ℕ) where
-  pub number-none : length s ≡ 0 → false ≡ isNumber s
-  number-none h = rw (eq-eqb _ _ h)
-
-  module _ (some : length s ≡ 0 → ⊥) (i : ℕ) (inv : allDigits s ≡ allDigits (drop i s)) where
-    some-is : isNumber s ≡ allDigits (drop i s)
-    some-is = rw (ne-eqb _ _ some) inv
-
+  module _ (i : ℕ) (inv : allDigits s ≡ allDigits (drop i s)) where
     module _ (h : i < length s) where
-      pub number-low : getD s i 0 < 48 → false ≡ isNumber s
+      pub digits-low : getD s i 0 < 48 → false ≡ allDigits s
       unfolding allDigits
-      number-low l = sym (some-is ∙ rw (drop-cons s i 0 h, lt-leb _ _ l))
+      digits-low l = sym (inv ∙ rw (drop-cons s i 0 h, lt-leb _ _ l))
 
       module _ (low : 48 ≤ getD s i 0) where
-        pub number-high : 57 < getD s i 0 → false ≡ isNumber s
+        pub digits-high : 57 < getD s i 0 → false ≡ allDigits s
         unfolding allDigits
-        number-high l = sym (some-is ∙ rw (drop-cons s i 0 h, le-leb _ _ low, lt-leb _ _ l))
+        digits-high l = sym (inv ∙ rw (drop-cons s i 0 h, le-leb _ _ low, lt-leb _ _ l))
 
-        pub number-on : getD s i 0 ≤ 57 → allDigits s ≡ allDigits (drop (i + 1) s)
+        pub digits-on : getD s i 0 ≤ 57 → allDigits s ≡ allDigits (drop (i + 1) s)
         unfolding allDigits
-        number-on l = inv ∙ rw (drop-cons s i 0 h, le-leb _ _ low, le-leb _ _ l, add-one i)
+        digits-on l = inv ∙ rw (drop-cons s i 0 h, le-leb _ _ low, le-leb _ _ l, add-one i)
 
-    pub number-over : length s ≤ i → true ≡ isNumber s
+    pub digits-over : length s ≤ i → true ≡ allDigits s
     unfolding allDigits
-    number-over h = sym (some-is ∙ rw (drop-of-length-le s h))
+    digits-over h = sym (inv ∙ rw (drop-of-length-le s h))
 
   pub zero-short : length s < 2 → false ≡ leadsZero s
   zero-short h = rw (le-ltb 1 (length s) (omega arith))
@@ -81,12 +75,12 @@ module _ (s : List ℕ) where
 
 -- ---- two numbers
 
-module _ (x z : List ℕ) (a : Bool) (ea : a ≡ isNumber x) where
+module _ (x z : List ℕ) (a : Bool) (ea : a ≡ allDigits x) where
   pub first-none : not a ≡ true → NoNumber ≡ numberReason x z
   unfolding numberReason
   first-none h = rw (← ea, not-true a h)
 
-  module _ (ha : not a ≡ false) (b : Bool) (eb : b ≡ isNumber z) where
+  module _ (ha : not a ≡ false) (b : Bool) (eb : b ≡ allDigits z) where
     pub second-none : not b ≡ true → NoNumber ≡ numberReason x z
     unfolding numberReason
     second-none h = rw (← ea, ← eb, not-false a ha, not-true b h)
@@ -107,40 +101,68 @@ module _ (x z : List ℕ) (a : Bool) (ea : a ≡ isNumber x) where
 
 -- ---- words
 
+-- a word and a space, by the place of the space
+module _ (s : List ℕ) (i : ℕ) (at-space : i ≡ firstAt 32 s) where
+  begins-is : beginsWord s ≡ ltb i (length s) && not (eqb (length (take i s)) 0)
+  begins-is = rw at-space
+
+  begins-none : i ≡ 0 → beginsWord s ≡ false
+  begins-none z = begins-is ∙ rw (z, and-false (ltb 0 (length s)))
+
+  begins-there : (i ≡ 0 → ⊥) → i < length s → beginsWord s ≡ true
+  begins-there nz h = begins-is ∙ rw (lt-ltb i (length s) h, length-take-le i s (omega arith), ne-eqb i 0 nz)
+
 module _ (x s : List ℕ) (i : ℕ) (at-space : i ≡ firstAt 32 s) where
-  action-is : actionReason x s ≡ cond (ltb i (length s) && not (has 32 (from (i + 1) s))) (cond (isKindWord (take i s)) (numberReason x (from (i + 1) s)) Kind) Words
+  action-is : actionReason x s ≡ cond (beginsWord s && isWord (from (i + 1) s)) (cond (isKindWord (take i s)) (numberReason x (from (i + 1) s)) Kind) Words
   unfolding actionReason
   action-is = rw (from-drop (i + 1) s, at-space)
 
-  pub action-one : i ≡ length s → Words ≡ actionReason x s
-  action-one h = sym (action-is ∙ rw (le-ltb i (length s) (omega arith)))
+  pub action-none : i ≡ 0 → Words ≡ actionReason x s
+  action-none z = sym (action-is ∙ rw (begins-none s i at-space z))
 
-  module _ (short : i ≤ length s) (ne : i ≡ length s → ⊥) (b : Bool) (eb : b ≡ has 32 (from (i + 1) s)) where
-    within : ltb i (length s) ≡ true
-    within = lt-ltb i (length s) (omega arith)
+  -- the third word
+  object-length : length (from (i + 1) s) ≡ length s - (i + 1)
+  object-length = rw (from-drop (i + 1) s) (length-drop (i + 1) s)
+
+  no-object : isWord (from (i + 1) s) ≡ false → Words ≡ actionReason x s
+  no-object e = sym (action-is ∙ rw (e, and-false (beginsWord s)))
+
+  pub action-short : length s - i < 2 → Words ≡ actionReason x s
+  action-short h = no-object (let l = object-length in rw (eq-eqb (length (from (i + 1) s)) 0 (omega arith)))
+
+  module _ (nz : i ≡ 0 → ⊥) (long : 2 ≤ length s - i) (b : Bool) (eb : b ≡ has 32 (from (i + 1) s)) where
+    some-object : isWord (from (i + 1) s) ≡ not b
+    some-object = let l = object-length in rw (ne-eqb (length (from (i + 1) s)) 0 (λ z. omega arith), eb)
 
     pub action-more : b ≡ true → Words ≡ actionReason x s
-    action-more h = sym (action-is ∙ rw (within, ← eb, h))
+    action-more h = no-object (some-object ∙ rw h)
 
     module _ (hb : b ≡ false) (k : ℕ) (r : ReadsKind (take i s) k) where
+      both-there : beginsWord s && isWord (from (i + 1) s) ≡ true
+      both-there = true-both (begins-there s i at-space nz (omega arith)) (some-object ∙ rw hb)
+
       pub action-unknown : k ≡ 0 → Kind ≡ actionReason x s
       action-unknown z =
           let e : isKindWord (take i s) ≡ false = false-test (known-word (take i s)) (λ g. read-no-kind r z (g .0) (g .1) (g .2) (g .3)) in
-          sym (action-is ∙ rw (within, ← eb, hb, e))
+          sym (action-is ∙ rw (both-there, e))
 
       pub action-numbers : (k ≡ 0 → ⊥) → (v : Reason) → v ≡ numberReason x (from (i + 1) s) → v ≡ actionReason x s
-      action-numbers nz v ev =
-          let e : isKindWord (take i s) ≡ true = rw (read-kind r nz .2) (word-known k) in
-          ev ∙ sym (action-is ∙ rw (within, ← eb, hb, e))
+      action-numbers nk v ev =
+          let e : isKindWord (take i s) ≡ true = rw (read-kind r nk .2) (word-known k) in
+          ev ∙ sym (action-is ∙ rw (both-there, e))
 
 module _ (line : List ℕ) (i : ℕ) (at-space : i ≡ firstAt 32 line) where
+  pub words-none : i ≡ 0 → Words ≡ wordReason line
+  unfolding wordReason
+  words-none z = rw (begins-none line i at-space z)
+
   pub words-one : i ≡ length line → Words ≡ wordReason line
   unfolding wordReason
   words-one h = rw (← at-space, le-ltb i (length line) (omega arith))
 
-  pub words-more : i ≤ length line → (i ≡ length line → ⊥) → (v : Reason) → v ≡ actionReason (take i line) (from (i + 1) line) → v ≡ wordReason line
+  pub words-more : (i ≡ 0 → ⊥) → i ≤ length line → (i ≡ length line → ⊥) → (v : Reason) → v ≡ actionReason (take i line) (from (i + 1) line) → v ≡ wordReason line
   unfolding wordReason
-  words-more h ne v e = e ∙ rw (← at-space, lt-ltb i (length line) (omega arith), from-drop (i + 1) line)
+  words-more nz h ne v e = e ∙ rw (begins-there line i at-space nz (omega arith), ← at-space, from-drop (i + 1) line)
 
 -- ---- a note line
 

@@ -15,10 +15,10 @@ use Rattle.appending.specs.Decimal.{decimal, valueFrom}
 use Rattle.appending.proofs.DecimalLaws.{decimal-exactly}
 use Rattle.wording.specs.Lines.{kindWord, eventLine, IsEvent}
 use Rattle.wording.specs.Parts.{firstAt}
-use Rattle.wording.specs.Reasons.{isEmpty, has, beginsNote, isNoteLine, wordOf, restOf, isKindWord, isDigit, allDigits, isNumber, leadsZero, numberReason, actionReason, wordReason, noteReason, reasonOf, ThreeWords, Digits, LeadsZero, Tells, empty, carriage-return, tab, late-note, note-byte, words, kind, no-number, leading-zero, too-large}
+use Rattle.wording.specs.Reasons.{isEmpty, has, beginsNote, isNoteLine, wordOf, restOf, isWord, beginsWord, areTwo, isKindWord, isDigit, allDigits, leadsZero, numberReason, actionReason, wordReason, noteReason, reasonOf, Word, ThreeWords, Digits, LeadsZero, Tells, empty, carriage-return, tab, late-note, note-byte, words, kind, no-number, leading-zero, too-large}
 use Rattle.wording.proofs.FirstLaws.{first-clear, first-absent, first-split}
 use Rattle.wording.proofs.NoteLaws.{note-these, true-note}
-use Rattle.wording.proofs.LineLaws.{space-within, after-space}
+use Rattle.wording.proofs.LineLaws.{space-within, before-space, after-space}
 use Rattle.wording.proofs.ReasonLaws.{word-known, known-word}
 
 -- ---- tests
@@ -71,68 +71,65 @@ has-none s e m = let h = in-has 32 s m in omega arith
 
 -- ---- three words
 
--- at the first space a line is parted
-parted : (s : List ℕ) → has 32 s ≡ true → s ≡ wordOf s ++ (32 ∷ restOf s)
-parted s e = first-split 32 s (firstAt 32 s) refl (ltb-true _ _ e)
+-- bytes
+empty-none : (s : List ℕ) → not (isEmpty s) ≡ true → s ≢ []
+empty-none s e q = eqb-false (length s) 0 (not-true (isEmpty s) e) (ap length q)
 
-module _ (s x y : List ℕ) (clear : ¬ List·Memᴰ 32 x) (these : s ≡ x ++ (32 ∷ y)) where
-  space-there : has 32 s ≡ true
-  space-there = lt-ltb _ _ (space-within s (firstAt 32 s) refl x y (whole x clear) these)
+none-empty : (s : List ℕ) → s ≢ [] → not (isEmpty s) ≡ true
+none-empty s n = rw (ne-eqb (length s) 0 (λ q. n (no-bytes s q)))
 
-  rest-there : restOf s ≡ y
-  rest-there = after-space s (firstAt 32 s) refl x y (whole x clear) these
+-- one word
+word-true : (s : List ℕ) → isWord s ≡ true → Word s
+word-true s e =
+    let p = both (not (isEmpty s)) (not (has 32 s)) e in
+    record { some = empty-none s (p .0); clear = λ m. clash (lt-ltb _ _ (in-has 32 s m)) (not-true (has 32 s) (p .1)) }
 
--- one space behind the first word
-abbrev oneMore : List ℕ → Bool
-oneMore s = has 32 s && not (has 32 (restOf s))
+true-word : (s : List ℕ) → Word s → isWord s ≡ true
+true-word s w = true-both (none-empty s (w .some)) (let e = whole s (w .clear) in rw (le-ltb (firstAt 32 s) (length s) (omega arith)))
 
-three-spaces : {line x y z : List ℕ} → ThreeWords line x y z → (has 32 line ≡ true) × (oneMore (restOf line) ≡ true)
-three-spaces {line} {x} {y} {z} t =
-    let r = rest-there line x (y ++ (32 ∷ z)) (t .first) (t .these) in
-    let p : has 32 (restOf line) ≡ true = space-there (restOf line) y z (t .second) r in
-    let q : restOf (restOf line) ≡ z = rest-there (restOf line) y z (t .second) r in
-    let w = whole z (t .third) in
-    let n : has 32 (restOf (restOf line)) ≡ false = rw q (le-ltb (firstAt 32 z) (length z) (omega arith)) in
-    (space-there line x (y ++ (32 ∷ z)) (t .first) (t .these), rw (p, n))
+-- a word, a space and the rest
+module _ (s : List ℕ) where
+  begins-true : beginsWord s ≡ true → Word (wordOf s) × (s ≡ wordOf s ++ (32 ∷ restOf s))
+  begins-true e =
+      let p = both (has 32 s) (not (isEmpty (wordOf s))) e in
+      (record { some = empty-none (wordOf s) (p .1); clear = has-none (wordOf s) (first-clear 32 s) }, first-split 32 s (firstAt 32 s) refl (ltb-true _ _ (p .0)))
 
-spaces-three : (line : List ℕ) → has 32 line ≡ true → oneMore (restOf line) ≡ true → ThreeWords line (wordOf line) (wordOf (restOf line)) (restOf (restOf line))
-spaces-three line p q =
+  true-begins : (x y : List ℕ) → Word x → s ≡ x ++ (32 ∷ y) → (beginsWord s ≡ true) × (restOf s ≡ y)
+  true-begins x y w e =
+      let n : not (isEmpty (wordOf s)) ≡ true = rw (before-space s (firstAt 32 s) refl x y (whole x (w .clear)) e) (none-empty x (w .some)) in
+      (true-both (lt-ltb _ _ (space-within s (firstAt 32 s) refl x y (whole x (w .clear)) e)) n, after-space s (firstAt 32 s) refl x y (whole x (w .clear)) e)
+
+-- a word, and two behind it
+three-true : (line : List ℕ) → beginsWord line ≡ true → areTwo (restOf line) ≡ true → ThreeWords line (wordOf line) (wordOf (restOf line)) (restOf (restOf line))
+three-true line p q =
     let s = restOf line in
-    let b = both (has 32 s) (not (has 32 (restOf s))) q in
-    let e : line ≡ wordOf line ++ (32 ∷ s) = parted line p in
-    let f : s ≡ wordOf s ++ (32 ∷ restOf s) = parted s (b .0) in
-    record {
-      these = e ∙ ap (λ (l : List ℕ). wordOf line ++ (32 ∷ l)) f;
-      first = has-none (wordOf line) (first-clear 32 line);
-      second = has-none (wordOf s) (first-clear 32 s);
-      third = λ m. clash (lt-ltb _ _ (in-has 32 (restOf s) m)) (not-true (has 32 (restOf s)) (b .1));
-    }
+    let b = both (beginsWord s) (isWord (restOf s)) q in
+    let e = begins-true line p in
+    let f = begins-true s (b .0) in
+    record { these = e .1 ∙ ap (λ (l : List ℕ). wordOf line ++ (32 ∷ l)) (f .1); first = e .0; second = f .0; third = word-true (restOf s) (b .1) }
+
+true-three : {line x y z : List ℕ} → ThreeWords line x y z → (beginsWord line ≡ true) × (areTwo (restOf line) ≡ true)
+true-three {line} {x} {y} {z} t =
+    let p = true-begins line x (y ++ (32 ∷ z)) (t .first) (t .these) in
+    let q = true-begins (restOf line) y z (t .second) (p .1) in
+    (p .0, true-both (q .0) (rw (q .1) (true-word z (t .third))))
 
 -- ---- digits
 
 digit-true : (b : ℕ) → isDigit b ≡ true → (48 ≤ b) × (b ≤ 57)
 digit-true b e = let p = both (leb 48 b) (leb b 57) e in (leb-true _ _ (p .0), leb-true _ _ (p .1))
 
-all-true : (s : List ℕ) → allDigits s ≡ true → (d : ℕ) → List·Memᴰ d s → (48 ≤ d) × (d ≤ 57)
+digits-true : (s : List ℕ) → allDigits s ≡ true → Digits s
 unfolding allDigits
-all-true [] e d m = absurd (List·Memᴰ·not-nil m)
-all-true (b ∷ s) e d m = let p = both (isDigit b) (allDigits s) e in in-cons m (λ q. rw q (digit-true b (p .0))) (λ t. all-true s (p .1) d t)
+digits-true [] e d m = absurd (List·Memᴰ·not-nil m)
+digits-true (b ∷ s) e d m = let p = both (isDigit b) (allDigits s) e in in-cons m (λ q. rw q (digit-true b (p .0))) (λ t. digits-true s (p .1) d t)
 
-true-all : (s : List ℕ) → ((d : ℕ) → List·Memᴰ d s → (48 ≤ d) × (d ≤ 57)) → allDigits s ≡ true
+true-digits : (s : List ℕ) → Digits s → allDigits s ≡ true
 unfolding allDigits
-true-all [] f = refl
-true-all (b ∷ s) f =
+true-digits [] f = refl
+true-digits (b ∷ s) f =
     let g = f b (List·Memᴰ·head refl) in
-    true-both {b = isDigit b} (true-both (le-leb _ _ (g .0)) (le-leb _ _ (g .1))) (true-all s (λ d m. f d (List·Memᴰ·tail m)))
-
-number-true : (s : List ℕ) → isNumber s ≡ true → Digits s
-number-true s e =
-    let p = both (not (isEmpty s)) (allDigits s) e in
-    record { some = λ q. eqb-false (length s) 0 (not-true (isEmpty s) (p .0)) (ap length q); all = all-true s (p .1) }
-
-true-number : (s : List ℕ) → Digits s → isNumber s ≡ true
-true-number [] d = absurd (d .some refl)
-true-number (b ∷ s) d = let n : eqb (suc (length s)) 0 ≡ false = ne-eqb (suc (length s)) 0 (λ q. omega arith) in rw n (true-all (b ∷ s) (d .all))
+    true-both {b = isDigit b} (true-both (le-leb _ _ (g .0)) (le-leb _ _ (g .1))) (true-digits s (λ d m. f d (List·Memᴰ·tail m)))
 
 leads-true : (s : List ℕ) → leadsZero s ≡ true → LeadsZero s
 leads-true [] e = absurd (false≢true e)
@@ -140,8 +137,8 @@ leads-true (b ∷ []) e = absurd (false≢true e)
 leads-true (b ∷ c ∷ s) e = let p = both (ltb 1 (length (b ∷ c ∷ s))) (eqb b 48) e in record { next = c; more = s; these = ap (λ (a : ℕ). a ∷ c ∷ s) (eqb-true b 48 (p .1)) }
 
 -- digits with no leading zero are a number in decimal
-in-decimal : (s : List ℕ) → Digits s → leadsZero s ≡ false → s ≡ decimal (valueFrom 0 s)
-in-decimal s d e = decimal-exactly (valueFrom 0 s) s .0 (record { value = refl; digits-only = d .all; leading = alone s (d .some) e })
+in-decimal : (s : List ℕ) → s ≢ [] → Digits s → leadsZero s ≡ false → s ≡ decimal (valueFrom 0 s)
+in-decimal s n d e = decimal-exactly (valueFrom 0 s) s .0 (record { value = refl; digits-only = d; leading = alone s n e })
   where
     alone : (s : List ℕ) → s ≢ [] → leadsZero s ≡ false → getD s 0 48 ≡ 48 → s ≡ 48 ∷ []
     alone [] n e q = absurd (n refl)
@@ -171,36 +168,36 @@ module _ {line x y z : List ℕ} (t : ThreeWords line x y z) where
       by-cases (ltb 65535 (valueFrom 0 z)) (λ q. inr (ltb-true _ _ q))
       (λ q.
       let k = known-word y known in
-      let e = event-there (k .0) (k .1) (k .2) (k .3) (in-decimal x dx (l .0)) (ltb-false _ _ p) (in-decimal z dz (l .1)) (ltb-false _ _ q) in
+      let e = event-there (k .0) (k .1) (k .2) (k .3) (in-decimal x (t .first .some) dx (l .0)) (ltb-false _ _ p) (in-decimal z (t .third .some) dz (l .1)) (ltb-false _ _ q) in
       absurd (none (e .0) (e .1))))
 
   number-tells : ((e : Event) → ¬ IsEvent line e) → isKindWord y ≡ true → Tells line (numberReason x z)
   unfolding numberReason
   number-tells none known =
-      by-cases (isNumber x && isNumber z)
+      by-cases (allDigits x && allDigits z)
       (λ n.
-      let b = both (isNumber x) (isNumber z) n in
-      let dx = number-true x (b .0) in
-      let dz = number-true z (b .1) in
+      let b = both (allDigits x) (allDigits z) n in
+      let dx = digits-true x (b .0) in
+      let dz = digits-true z (b .1) in
       by-cases (leadsZero x || leadsZero z)
       (λ l. rw (n, l) (leading-zero t (⊎-elim (λ p. inl (leads-true x p)) (λ p. inr (leads-true z p)) (either-true (leadsZero x) (leadsZero z) l))))
       (λ l. rw (n, l) (too-large t dx dz (one-large none known dx dz (neither (leadsZero x) (leadsZero z) l)))))
-      (λ n. rw n (no-number t (⊎-elim (λ p. inl (test-false (true-number x) p)) (λ p. inr (test-false (true-number z) p)) (not-both (isNumber x) (isNumber z) n))))
+      (λ n. rw n (no-number t (⊎-elim (λ p. inl (test-false (true-digits x) p)) (λ p. inr (test-false (true-digits z) p)) (not-both (allDigits x) (allDigits z) n))))
 
 module _ (line : List ℕ) (none : (e : Event) → ¬ IsEvent line e) where
   word-tells : Tells line (wordReason line)
   unfolding wordReason actionReason
   word-tells =
-      by-cases (has 32 line)
+      by-cases (beginsWord line)
       (λ p.
-      by-cases (oneMore (restOf line))
+      by-cases (areTwo (restOf line))
       (λ q.
-      let t = spaces-three line p q in
+      let t = three-true line p q in
       by-cases (isKindWord (wordOf (restOf line)))
       (λ k. rw (p, q, k) (number-tells t none k))
       (λ k. rw (p, q, k) (kind t (λ j l m e. clash (rw e (word-known j)) k))))
-      (λ q. rw (p, q) (words (λ x y z t. clash (three-spaces t .1) q))))
-      (λ p. rw p (words (λ x y z t. clash (three-spaces t .0) p)))
+      (λ q. rw (p, q) (words (λ x y z t. clash (true-three t .1) q))))
+      (λ p. rw p (words (λ x y z t. clash (true-three t .0) p)))
 
   note-tells : Tells line (noteReason line)
   unfolding noteReason

@@ -44,20 +44,29 @@ wordOf s = take (firstAt 32 s) s
 abbrev pub restOf : List ℕ → List ℕ
 restOf s = drop (firstAt 32 s + 1) s
 
+-- is it a word: bytes, and no space among them?
+abbrev pub isWord : List ℕ → Bool
+isWord s = not (isEmpty s) && not (has 32 s)
+
+-- does it begin with a word and a space?
+abbrev pub beginsWord : List ℕ → Bool
+beginsWord s = has 32 s && not (isEmpty (wordOf s))
+
+-- is it two words, with one space between them?
+abbrev pub areTwo : List ℕ → Bool
+areTwo s = beginsWord s && isWord (restOf s)
+
 -- is it the word of a kind?
 abbrev pub isKindWord : List ℕ → Bool
 isKindWord w = same w readWord || (same w writeWord || (same w acquireWord || same w releaseWord))
 
--- is it a digit, and digits, at least one?
+-- is it a digit, and digits alone?
 abbrev pub isDigit : ℕ → Bool
 isDigit b = leb 48 b && leb b 57
 
 unfoldable pub allDigits : List ℕ → Bool
 allDigits [] = true
 allDigits (b ∷ s) = isDigit b && allDigits s
-
-abbrev pub isNumber : List ℕ → Bool
-isNumber s = not (isEmpty s) && allDigits s
 
 -- a 0, and another byte behind it
 abbrev pub leadsZero : List ℕ → Bool
@@ -67,15 +76,15 @@ leadsZero s = ltb 1 (length s) && eqb (getD s 0 0) 48
 
 -- of the first and the third word, which are to be numbers
 unfoldable pub numberReason : List ℕ → List ℕ → Reason
-numberReason x z = cond (isNumber x && isNumber z) (cond (leadsZero x || leadsZero z) LeadingZero TooLarge) NoNumber
+numberReason x z = cond (allDigits x && allDigits z) (cond (leadsZero x || leadsZero z) LeadingZero TooLarge) NoNumber
 
 -- of the first word, and of what stands behind it: a kind's word, a space and the third word
 unfoldable pub actionReason : List ℕ → List ℕ → Reason
-actionReason x s = cond (has 32 s && not (has 32 (restOf s))) (cond (isKindWord (wordOf s)) (numberReason x (restOf s)) Kind) Words
+actionReason x s = cond (areTwo s) (cond (isKindWord (wordOf s)) (numberReason x (restOf s)) Kind) Words
 
 -- of a line's words
 unfoldable pub wordReason : List ℕ → Reason
-wordReason line = cond (has 32 line) (actionReason (wordOf line) (restOf line)) Words
+wordReason line = cond (beginsWord line) (actionReason (wordOf line) (restOf line)) Words
 
 -- of a line that has bytes, and no carriage return and no tab
 unfoldable pub noteReason : List ℕ → Reason
@@ -87,17 +96,21 @@ reasonOf line = cond (isEmpty line) Empty (cond (has 13 line) CarriageReturn (co
 
 -- ---- what a reason says of a line
 
+-- at least one byte, and no space
+pub record Word (s : List ℕ) : Type 0 where
+  pub some : s ≢ []
+  pub clear : ¬ List·Memᴰ 32 s
+
 -- three words, with one space between them
 pub record ThreeWords (line x y z : List ℕ) : Type 0 where
   pub these : line ≡ x ++ (32 ∷ (y ++ (32 ∷ z)))
-  pub first : ¬ List·Memᴰ 32 x
-  pub second : ¬ List·Memᴰ 32 y
-  pub third : ¬ List·Memᴰ 32 z
+  pub first : Word x
+  pub second : Word y
+  pub third : Word z
 
--- at least one digit, and nothing else
-pub record Digits (s : List ℕ) : Type 0 where
-  pub some : s ≢ []
-  pub all : (d : ℕ) → List·Memᴰ d s → (48 ≤ d) × (d ≤ 57)
+-- digits alone
+abbrev pub Digits : List ℕ → Type 0
+Digits s = (d : ℕ) → List·Memᴰ d s → (48 ≤ d) × (d ≤ 57)
 
 -- a 0 with another byte behind it
 pub record LeadsZero (s : List ℕ) : Type 0 where

@@ -5,7 +5,7 @@ ghost use Prim.Native.Nat.{_≤_};
 ghost use lib.ListN.{length};
 ghost use Rattle.wording.specs.Lines.{Reads};
 ghost use Rattle.wording.specs.Parts.{SaysNote, firstAt, digitsFrom, ReadsNumber, ReadsKind, ReadsAction, ReadsEvent};
-ghost use Rattle.wording.specs.Reasons.{has, beginsNote, isNumber, leadsZero, numberReason, actionReason, wordReason, noteReason, reasonOf};
+ghost use Rattle.wording.specs.Reasons.{has, beginsNote, allDigits, leadsZero, numberReason, actionReason, wordReason, noteReason, reasonOf};
 
 // The bytes of a note line before its text: the word and a space.
 pub const NOTE_BYTES: usize = 5;
@@ -29,7 +29,7 @@ pub enum Reason {
     LateNote,
     // a note's text has a byte that no note may have
     NoteByte,
-    // they are not three with one space between them
+    // they are not three with one space between them; a word has at least one byte
     Words,
     // the second word; the others are those of the first or the third
     Kind,
@@ -194,13 +194,10 @@ fn has(s: &[u8], b: u8) -> bool
     first_at(s, b) < s.len()
 }
 
-// Digits, at least one.
-fn is_number(s: &[u8]) -> bool
-    ensures { λ r. ⌜ r ≡ isNumber (now (s .entry)) ⌝ }
+// Digits alone.
+fn all_digits(s: &[u8]) -> bool
+    ensures { λ r. ⌜ r ≡ allDigits (now (s .entry)) ⌝ }
 {
-    if s.len() == 0 {
-        return false;
-    }
     let mut i = 0;
     while i < s.len() {
         if s[i] < b'0' {
@@ -227,10 +224,10 @@ fn leads_zero(s: &[u8]) -> bool
 fn number_reason(thread: &[u8], object: &[u8]) -> Reason
     ensures { λ r. ⌜ r ≡ numberReason (now (thread .entry)) (now (object .entry)) ⌝ }
 {
-    if !is_number(thread) {
+    if !all_digits(thread) {
         return Reason::NoNumber;
     }
-    if !is_number(object) {
+    if !all_digits(object) {
         return Reason::NoNumber;
     }
     if leads_zero(thread) {
@@ -242,12 +239,16 @@ fn number_reason(thread: &[u8], object: &[u8]) -> Reason
     Reason::TooLarge
 }
 
-// By what stands behind the first word.
+// By what stands behind the first word: it is to be a word, a space and a word.
 fn action_reason(thread: &[u8], s: &[u8]) -> Reason
     ensures { λ r. ⌜ r ≡ actionReason (now (thread .entry)) (now (s .entry)) ⌝ }
 {
     let end = first_at(s, b' ');
-    if end == s.len() {
+    if end == 0 {
+        return Reason::Words;
+    }
+    // no space, or nothing behind it
+    if s.len() - end < 2 {
         return Reason::Words;
     }
     if has(&s[end + 1..], b' ') {
@@ -263,6 +264,9 @@ fn word_reason(line: &[u8]) -> Reason
     ensures { λ r. ⌜ r ≡ wordReason (now (line .entry)) ⌝ }
 {
     let end = first_at(line, b' ');
+    if end == 0 {
+        return Reason::Words;
+    }
     if end == line.len() {
         return Reason::Words;
     }

@@ -1,5 +1,5 @@
 use Rattle.model.proofs.Lists.{front-length}
-use Rattle.wording.proofs.ReasonLaws.{action-one, action-more, action-unknown, action-numbers}
+use Rattle.wording.proofs.ReasonLaws.{action-none, action-short, action-more, action-unknown, action-numbers}
 use borrow.Author.Needs.{needs}
 use Rattle.wording.proofs.action_reason.Statement.{statement}
 use Rattle.wording.proofs.action_reason.Tie as tie
@@ -9,7 +9,9 @@ action-reason-spec =
     tie.close
     (tie.spec
     (λ c κs. search needs)
-    (λ c. search (action-one, needs))
+    (λ c. search (action-none, needs))
+    (λ c. search needs)
+    (λ c. search (action-short, needs))
     (λ c. search needs)
     (λ c. search needs)
     (λ c. search needs)

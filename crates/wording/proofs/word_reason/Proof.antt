@@ -1,5 +1,5 @@
 use Rattle.model.proofs.Lists.{front-length}
-use Rattle.wording.proofs.ReasonLaws.{words-one, words-more}
+use Rattle.wording.proofs.ReasonLaws.{words-none, words-one, words-more}
 use borrow.Author.Needs.{needs}
 use Rattle.wording.proofs.word_reason.Statement.{statement}
 use Rattle.wording.proofs.word_reason.Tie as tie
@@ -9,6 +9,7 @@ word-reason-spec =
     tie.close
     (tie.spec
     (λ c κs. search needs)
+    (λ c. search (words-none, needs))
     (λ c. search (words-one, needs))
     (λ c. search (front-length, needs))
     (λ c. search needs)
