@@ -55,8 +55,8 @@ fn put(dir: &Path, name: &str, bytes: &[u8]) {
 
 fn write(dir: &Path) {
     let book = vectors();
-    put(dir, "crates/vectors/stdin", book.stdin.as_bytes());
-    put(dir, "crates/vectors/stdout", book.stdout.as_bytes());
+    put(dir, "vectors/asked", book.stdin.as_bytes());
+    put(dir, "vectors/answered", book.stdout.as_bytes());
     for (name, bytes) in samples::all() {
         put(dir, &format!("samples/{name}.rec"), &bytes);
         let report = samples::report(&bytes);
@@ -85,7 +85,7 @@ fn write(dir: &Path) {
         println!("{count:8} {what}");
     }
     println!(
-        "{:8} bytes of stdin and stdout",
+        "{:8} bytes asked and answered",
         book.stdin.len() + book.stdout.len()
     );
 }
@@ -124,8 +124,8 @@ fn more(seed: &str, count: &str, dir: &str, longer: bool) {
         }
         askings::ask_all_now_and_then(&mut book, &mut of_all);
     }
-    put(Path::new(dir), "stdin", book.stdin.as_bytes());
-    put(Path::new(dir), "stdout", book.stdout.as_bytes());
+    put(Path::new(dir), "asked", book.stdin.as_bytes());
+    put(Path::new(dir), "answered", book.stdout.as_bytes());
 }
 
 fn main() {

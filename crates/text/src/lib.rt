@@ -1,5 +1,4 @@
-// The text that a program reads and writes: bytes from words of hex digits, two to a byte (a last one alone is passed over), where a word
-// that begins with a number and '*' stands that many times; and words, numbers, hex digits and refusals on standard output.
+// The text that a program reads and writes: numbers of a line; and words, numbers and refusals on standard output.
 use libc::STDOUT_FILENO;
 use limits::EventNumber;
 use limits::Refusal;
@@ -22,11 +21,10 @@ pub fn until(text: &[u8], from: usize, stop: u8) -> usize
 }
 
 fn digit(c: u8) -> u8
-    ensures { λ r. ⌜ r < 16 ⌝ }
+    ensures { λ r. ⌜ r < 10 ⌝ }
 {
     match c {
         b'0'..=b'9' => c - b'0',
-        b'A'..=b'F' => c - b'A' + 10,
         _ => 0,
     }
 }
@@ -43,7 +41,7 @@ fn with_digit(n: usize, c: u8) -> usize {
 }
 
 // The last number of a text.
-pub fn decimal(text: &[u8]) -> usize {
+fn decimal(text: &[u8]) -> usize {
     let mut n = 0;
     let mut i = 0;
     while i < text.len() {
@@ -51,57 +49,6 @@ pub fn decimal(text: &[u8]) -> usize {
         i += 1;
     }
     n
-}
-
-fn put_hex(word: &[u8], file: &mut [u8], n: usize) -> usize
-    requires { ⌜ n ≤ length (now file) ⌝ }
-    ensures { λ r. ⌜ r ≤ length (now (file .entry)) ⌝ }
-{
-    let mut m = n;
-    let mut i = 1;
-    while i < word.len() {
-        if m == file.len() {
-            return m;
-        }
-        file[m] = digit(word[i - 1]) * 16 + digit(word[i]);
-        m += 1;
-        i += 2;
-    }
-    m
-}
-
-fn put_word(word: &[u8], file: &mut [u8], n: usize) -> usize
-    requires { ⌜ n ≤ length (now file) ⌝ }
-    ensures { λ r. ⌜ r ≤ length (now (file .entry)) ⌝ }
-{
-    let star = until(word, 0, b'*');
-    if star == word.len() {
-        return put_hex(word, file, n);
-    }
-    let mut left = decimal(&word[0..star]);
-    let mut m = n;
-    while 0 < left {
-        m = put_hex(&word[star + 1..], file, m);
-        left -= 1;
-    }
-    m
-}
-
-// The bytes of a line, in the front of a file; how many there are.
-pub fn bytes(line: &[u8], file: &mut [u8]) -> usize
-    ensures { λ r. ⌜ r ≤ length (now (file .entry)) ⌝ }
-{
-    let mut m = 0;
-    let mut i = 0;
-    while i < line.len() {
-        let e = until(line, i, b' ');
-        m = put_word(&line[i..e], file, m);
-        if e == line.len() {
-            return m;
-        }
-        i = e + 1;
-    }
-    m
 }
 
 fn short(n: usize) -> u16 {
@@ -132,33 +79,12 @@ pub fn numbers(line: &[u8], list: &mut [u16]) -> usize
     m
 }
 
-// ---- counting
-
+// The lower of two numbers.
 pub fn at_most(n: usize, most: usize) -> usize
     ensures { λ r. ⌜ r ≤ most ⌝ }
 {
     if most < n {
         return most;
-    }
-    n
-}
-
-pub fn one(b: bool) -> u64
-    ensures { λ r. ⌜ r ≤ 1 ⌝ }
-{
-    if b {
-        return 1;
-    }
-    0
-}
-
-// How many bytes hold b.
-pub fn bytes_with(bytes: &[u8], b: u8) -> u64 {
-    let mut n = 0u64;
-    let mut i = 0;
-    while i < bytes.len() {
-        n += one(bytes[i] == b);
-        i += 1;
     }
     n
 }
@@ -174,12 +100,7 @@ pub fn byte(b: u8) {
     word(&one);
 }
 
-// Stands between two fields of a line.
-pub fn bar() {
-    word(b" | ");
-}
-
-pub fn number(n: u64) {
+fn number(n: u64) {
     io::print_decimal(STDOUT_FILENO, n);
 }
 
@@ -218,28 +139,6 @@ pub fn list(l: &[u16], n: u16) {
             return;
         }
         entry(l[i]);
-        i += 1;
-    }
-}
-
-fn hex_digit(d: u8) {
-    if d < 10 {
-        byte(d + b'0');
-        return;
-    }
-    byte(d % 16 + 55);
-}
-
-fn hex_byte(b: u8) {
-    hex_digit(b / 16);
-    hex_digit(b % 16);
-}
-
-// Bytes as hex digits, without spaces.
-pub fn hex(bytes: &[u8]) {
-    let mut i = 0;
-    while i < bytes.len() {
-        hex_byte(bytes[i]);
         i += 1;
     }
 }
