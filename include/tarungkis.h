@@ -11,7 +11,7 @@
  * - Places that are `const` may overlap each other. A place that is not must overlap no other place of the call.
  * - While the call goes on, no other thread may write to a place that is `const`, nor read or write one that is not.
  * - What is left in a place is said with each function. A refusal changes nothing.
- * - Stack: TARUNGKIS_STACK_BYTES are enough for any call. The report takes most; bench/stack measures what it needs, some 300,000 bytes with the
+ * - Stack: TARUNGKIS_STACK_BYTES are enough for any call. The report takes most; bench/stack measures what it needs, some 106,000 bytes with the
  *   example's own arrays.
  */
 #ifndef TARUNGKIS_H

@@ -1,2 +1,2 @@
 pub mod MaskLaws
-pub mod MarkLaws
+pub mod ClearLaws

@@ -1,3 +1,2 @@
--- Sets of small numbers in the bits of one, and a work area of bits.
+-- Sets of small numbers in the bits of one.
 pub mod Mask
-pub mod Marks

@@ -7,20 +7,21 @@ use mathlib.Core.Bool.{Bool, true, false, not}
 use mathlib.Core.Option.{none}
 use mathlib.Core.List.{List, [], _∷_, reverse}
 use lib.ListN.{length, getD, drop, replicate, drop-of-length-le}
-use lib.Seq.{take-all, drop-cons}
+use lib.Seq.{drop-cons}
+use lib.Dec.{eqb}
 use borrow.Author.Tests.{not-true, not-false}
 use Rattle.model.specs.Trace.{Trace, Valid}
 use Rattle.model.specs.Good.{maxThread, maxObject}
-use Rattle.decision.specs.Grid.{passed}
-use Rattle.decision.specs.Check.{isEnabled, placeFault, firstOf, faultFrom, check}
+use Rattle.model.specs.Lists.{passed}
+use Rattle.model.proofs.Passed.{passed-suc, passed-all}
+use Rattle.decision.specs.Check.{isEnabled, placeFault, firstOf, faultFrom, isCorrect, check}
 use Rattle.decision.specs.Decision.{isConflicting}
-use Rattle.decision.proofs.Merges.{passed-suc}
 use Rattle.decision.proofs.CheckExact.{clean-step}
 use Rattle.decision.proofs.ListingExact.{conflicting-exactly}
 use Rattle.limits.specs.Limits.{noLocks}
 use Rattle.limits.specs.declared.Refusal.the-variants.{NotConflicting}
 use Rattle.table.proofs.EntryLaws.{entries-new}
-use Rattle.checking.specs.Passing.{Knows, NextTold, FaultTold, KnowsMore}
+use Rattle.checking.specs.Passing.{Knows, NextTold, FaultTold, KnowsMore, Walked}
 use Rattle.checking.specs.Checking.{checked, checkIn}
 use Rattle.checking.specs.declared.Check.the-variants.{Refused, Yes, No}
 
@@ -33,19 +34,8 @@ pub record Passing (t : Trace) (list : List ℕ) (i : ℕ) (last writes locks : 
   pub knows : Knows t (passed list i) last writes locks
   pub rest : faultFrom t [] list ≡ faultFrom t (passed list i) (drop i list)
 
-pub passing-start : (t : Trace) (list locks : List ℕ) → locks ≡ noLocks → Passing t list 0 (replicate (maxThread + 1) 0) (replicate (maxObject + 1) 0) locks
-unfolding noLocks
-passing-start t list locks e =
-    rw e
-    record {
-      knows = record {
-        correct = tt;
-        threads = entries-new _ maxThread (λ c. refl);
-        cells = entries-new _ maxObject (λ x. refl);
-        holders = entries-new _ maxObject (λ x. refl);
-      };
-      rest = refl;
-    }
+pub passing-start : {t : Trace} {last writes locks : List ℕ} → Knows t [] last writes locks → (list : List ℕ) → Passing t list 0 last writes locks
+passing-start k list = record { knows = k; rest = refl }
 
 module _ {t : Trace} {list : List ℕ} {i : ℕ} {last writes locks : List ℕ} (p : Passing t list i last writes locks) where
   module _ (h : i < length list) {f : ℕ} (w : FaultTold t last writes locks (getD list i 0) f) where
@@ -56,9 +46,8 @@ module _ {t : Trace} {list : List ℕ} {i : ℕ} {last writes locks : List ℕ} 
     unfolding faultFrom
     split = p .rest ∙ rw (drop-cons list i 0 h, ← here) refl
 
-    pub passing-fault : (a b : ℕ) → (f ≡ 0 → ⊥) → f ≡ check t a b list
-    unfolding check
-    passing-fault a b ne = rw (split ∙ sym (first-nonzero f _ ne)) (first-nonzero f _ ne)
+    pub passing-fault : (f ≡ 0 → ⊥) → Walked t list f last writes locks
+    passing-fault ne = record { says = first-nonzero f _ ne ∙ sym split; knows = λ e. absurd (ne e) }
 
     module _ (e : f ≡ 0) where
       pub passing-valid : Valid t (getD list i 0)
@@ -69,33 +58,53 @@ module _ {t : Trace} {list : List ℕ} {i : ℕ} {last writes locks : List ℕ} 
           let r : passed list (suc i) ≡ getD list i 0 ∷ passed list i = passed-suc list i h in
           rw (add-one i) (record { knows = rw r (s .knows (passed list i) (p .knows) (sym here ∙ e)); rest = rw r (split ∙ rw e refl) })
 
-  -- ---- after the list
+  pub passing-end : length list ≤ i → Walked t list 0 last writes locks
+  unfolding faultFrom
+  passing-end h = record { says = sym (p .rest ∙ rw (drop-of-length-le list h) refl); knows = λ e. rw (passed-all list i h) at (p .knows) }
 
-  module _ (h : length list ≤ i) where
-    whole : passed list i ≡ reverse list
-    whole = ap reverse (take-all i list h)
+-- ---- the whole list
 
+pub knows-none : (t : Trace) (locks : List ℕ) → locks ≡ noLocks → Knows t [] (replicate (maxThread + 1) 0) (replicate (maxObject + 1) 0) locks
+unfolding noLocks
+knows-none t locks e =
+    rw e
+    record {
+      correct = tt;
+      threads = entries-new _ maxThread (λ c. refl);
+      cells = entries-new _ maxObject (λ x. refl);
+      holders = entries-new _ maxObject (λ x. refl);
+    }
+
+module _ {t : Trace} {list : List ℕ} {f : ℕ} {last writes locks : List ℕ} (w : Walked t list f last writes locks) where
+  pub walked-correct : eqb f 0 ≡ isCorrect t list
+  unfolding isCorrect
+  walked-correct = ap (λ (n : ℕ). eqb n 0) (w .says)
+
+  pub walked-fault : (a b : ℕ) → (f ≡ 0 → ⊥) → f ≡ check t a b list
+  unfolding check
+  walked-fault a b ne = rw (← (w .says)) (first-nonzero f _ ne)
+
+  module _ (e : f ≡ 0) where
     clean : faultFrom t [] list ≡ 0
-    unfolding faultFrom
-    clean = p .rest ∙ rw (drop-of-length-le list h) refl
+    clean = sym (w .says) ∙ e
 
     enabled : {k : ℕ} {u : Bool} → NextTold t last k u → isEnabled t list k ≡ u
     unfolding isEnabled
-    enabled w = sym (w .is (reverse list) writes locks (rw whole at (p .knows)))
+    enabled n = sym (n .is (reverse list) writes locks (w .knows e))
 
     module _ (a b : ℕ) {u : Bool} (na : NextTold t last a u) where
-      pub passing-lower : not u ≡ true → 25 ≡ check t a b list
+      pub walked-lower : not u ≡ true → 25 ≡ check t a b list
       unfolding check
-      passing-lower e = rw (clean, enabled na, e) refl
+      walked-lower i = rw (clean, enabled na, i) refl
 
-      module _ (e : not u ≡ false) {v : Bool} (nb : NextTold t last b v) where
-        pub passing-higher : not v ≡ true → 26 ≡ check t a b list
+      module _ (i : not u ≡ false) {v : Bool} (nb : NextTold t last b v) where
+        pub walked-higher : not v ≡ true → 26 ≡ check t a b list
         unfolding check
-        passing-higher f = rw (clean, enabled na, e, enabled nb, f) refl
+        walked-higher j = rw (clean, enabled na, i, enabled nb, j) refl
 
-        pub passing-both : not v ≡ false → 0 ≡ check t a b list
+        pub walked-both : not v ≡ false → 0 ≡ check t a b list
         unfolding check
-        passing-both f = rw (clean, enabled na, e, enabled nb, f) refl
+        walked-both j = rw (clean, enabled na, i, enabled nb, j) refl
 
 -- ---- question 5
 

@@ -2,12 +2,12 @@
 use Prim.Native.Nat.{ℕ}
 use mathlib.Core.Path.{_≡_}
 use mathlib.Core.Bool.{Bool, true}
-use mathlib.Core.List.{List, _∷_, reverse}
+use mathlib.Core.List.{List, [], _∷_, reverse}
 use Rattle.model.specs.Trace.{Trace}
 use Rattle.model.specs.Observed.{lastWrite}
 use Rattle.model.specs.Good.{maxThread, maxObject, holder}
 use Rattle.model.specs.Reordering.{Correct}
-use Rattle.decision.specs.Check.{isNext, placeFault}
+use Rattle.decision.specs.Check.{isNext, placeFault, faultFrom}
 use Rattle.table.specs.Links.{lastOf}
 use Rattle.table.specs.Entries.{Entries}
 
@@ -35,3 +35,8 @@ pub record FaultTold (t : Trace) (last writes locks : List ℕ) (k r : ℕ) : Ty
 -- event k, which has no fault, goes into the lists: they know one event more
 pub record KnowsMore (t : Trace) (k : ℕ) (last writes locks last′ writes′ locks′ : List ℕ) : Type 0 where
   pub knows : (h : List ℕ) → Knows t h last writes locks → placeFault t h k ≡ 0 → Knows t (k ∷ h) last′ writes′ locks′
+
+-- the first fault of a list by place; where there is none, the lists know all its events
+pub record Walked (t : Trace) (list : List ℕ) (r : ℕ) (last writes locks : List ℕ) : Type 0 where
+  pub says : r ≡ faultFrom t [] list
+  pub knows : r ≡ 0 → Knows t (reverse list) last writes locks

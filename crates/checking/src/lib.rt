@@ -1,4 +1,4 @@
-// Question 5: is a list a correct reordering that brings both accesses next? One pass over it keeps three lists of the events passed:
+// Is a list a correct reordering? Question 5: and does it bring both accesses next? One pass over it keeps three lists of the events passed:
 // `last`, the last event of each thread; `writes`, the last write of each cell (both 0 for none);
 // and `locks`, who holds each lock: 0 for nobody, c + 1 for thread c.
 use limits::Event;
@@ -7,11 +7,12 @@ use limits::Refusal;
 use limits::Thread;
 ghost use mathlib.Core.Path.{_≡_};
 ghost use mathlib.Core.Option.{none};
+ghost use mathlib.Core.List.{[]};
 ghost use Rattle.model.specs.Trace.{Valid};
-ghost use Rattle.decision.specs.Check.{check};
+ghost use Rattle.decision.specs.Check.{isCorrect, check};
 ghost use Rattle.table.specs.Table.{trace, Linked};
 ghost use Rattle.checking.specs.Checking.{checkIn};
-ghost use Rattle.checking.specs.Passing.{NextTold, AccessTold, FaultTold, KnowsMore};
+ghost use Rattle.checking.specs.Passing.{Knows, NextTold, AccessTold, FaultTold, KnowsMore, Walked};
 
 // The paper's numbers of the faults. A number of the list is 0 or above n;
 const NO_EVENT: u8 = 21;
@@ -127,6 +128,41 @@ fn pass(
     }
 }
 
+// Goes through the list: its first fault by place, 0 for none. The three lists are lent as of nothing passed; where there is no fault they are then as of all passed.
+fn walk(
+    table: &[u16],
+    list: &[u16],
+    last: &mut [u16; Thread::COUNT],
+    writes: &mut [u16; Event::OBJECTS],
+    locks: &mut [u8; Event::OBJECTS],
+) -> u8
+    requires { ⌜ Linked (now table) × Knows (trace (now table)) [] (now last) (now writes) (now locks) ⌝ }
+    ensures { λ r. ⌜ Walked (trace (now (table .entry))) (now (list .entry)) r (now (last .exit)) (now (writes .exit)) (now (locks .exit)) ⌝ }
+{
+    let mut i = 0;
+    while i < list.len() {
+        let k = list[i];
+        let fault = fault_at(table, last, writes, locks, k);
+        if fault != 0 {
+            return fault;
+        }
+        pass(table, k, last, writes, locks);
+        i += 1;
+    }
+    0
+}
+
+// Is the list a correct reordering?
+pub fn is_correct(table: &[u16], list: &[u16]) -> bool
+    requires { ⌜ Linked (now table) ⌝ }
+    ensures { λ r. ⌜ r ≡ isCorrect (trace (now (table .entry))) (now (list .entry)) ⌝ }
+{
+    let mut last = [0u16; Thread::COUNT];
+    let mut writes = [0u16; Event::OBJECTS];
+    let mut locks = Locks::empty();
+    walk(table, list, &mut last, &mut writes, &mut locks.holder) == 0
+}
+
 // The first fault of the list proposed for (a, b): by place, else that a or b is not enabled after it. 0 for none.
 fn first_fault(table: &[u16], a: u16, b: u16, list: &[u16]) -> u8
     requires { ⌜ Linked (now table) ⌝ }
@@ -136,15 +172,9 @@ fn first_fault(table: &[u16], a: u16, b: u16, list: &[u16]) -> u8
     let mut last = [0u16; Thread::COUNT];
     let mut writes = [0u16; Event::OBJECTS];
     let mut locks = Locks::empty();
-    let mut i = 0;
-    while i < list.len() {
-        let k = list[i];
-        let fault = fault_at(table, &last, &writes, &locks.holder, k);
-        if fault != 0 {
-            return fault;
-        }
-        pass(table, k, &mut last, &mut writes, &mut locks.holder);
-        i += 1;
+    let fault = walk(table, list, &mut last, &mut writes, &mut locks.holder);
+    if fault != 0 {
+        return fault;
     }
     if !is_next(table, &last, a as usize) {
         return LOWER_NOT_ENABLED;

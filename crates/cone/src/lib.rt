@@ -1,63 +1,281 @@
-// The causal cone of some events (the roots), as flags, and the flagged events of one side: one thread's, or all others'.
-// Place k of the flags is event k's. Place 0, which stands for no event, is always flagged, so that a link to none needs no test.
-// They are found by sweeps from the last event down: the previous event and the observed write stand below an event, so the same
-// sweep comes to them; only a matching release stands above. The next sweep begins at the highest release that is new.
+// The causal cone of some events (the roots), by counts: the last event of each thread that is in it, its top. A cone is the beginning of
+// each thread, so this is all of it. Then its events in two lists: those of one thread, and those of all others.
+// From a top the events of its thread are followed back, and each brings in its own: that raises tops. This stops as soon as a root is in the cone.
+use limits::Thread;
 ghost use mathlib.Core.Path.{_≡_};
-ghost use Prim.Native.Nat.{_+_, _<_, max};
-ghost use lib.ListN.{length, getD, set, replicate};
-ghost use Rattle.model.specs.Trace.{Valid};
-ghost use Rattle.decision.specs.Rounds.{isExempt};
+ghost use Prim.Native.Nat.{_+_, _≤_, _<_, max};
+ghost use lib.ListN.{length, getD, replicate};
+ghost use Rattle.model.specs.Trace.{Valid, threadOf};
+ghost use Rattle.model.specs.Lists.{allBut};
+ghost use Rattle.model.specs.Good.{Good, maxThread};
 ghost use Rattle.table.specs.Table.{trace};
-ghost use Rattle.cone.specs.Flags.{Roots, Rooted, ConeFlags};
-ghost use Rattle.cone.specs.Sweep.{Sound, Grown, BringsIn, Seeded, Closing};
-ghost use Rattle.cone.specs.Sides.{Pickable, Picked, isChosen, Picking};
+ghost use Rattle.cone.specs.Tops.{Rooted, Told};
+ghost use Rattle.cone.specs.Following.{noRoot, hasRoot, Bars, Within, Coming, Raising, Answer, Raised, BringsIn, Follows, Going, Caught, Round, Behind, IsRoot, Started, Seeded};
+ghost use Rattle.cone.specs.Split.{Splits, Moved, Others, isOf, Putting, Highest};
+
+// The bar of a thread that no root is of: no event reaches it.
+const NO_ROOT: u16 = 65535;
 
 // The number in place i of a list.
 fn entry(list: &[u16], i: usize) -> usize
     requires { ⌜ i < length (now list) ⌝ }
     ensures { λ r. ⌜ r ≡ getD (now (list .entry)) i 0 ⌝ }
 {
-    list[i] as usize
+    table::wide(list[i])
+}
+
+// The number that a list by thread has for thread c.
+fn place(list: &[u16; Thread::COUNT], c: usize) -> usize
+    requires { ⌜ c ≤ maxThread ⌝ }
+    ensures { λ r. ⌜ r ≡ getD (now (list .entry)) c 0 ⌝ }
+{
+    table::wide(list[c])
+}
+
+// Each root is the bar of its thread.
+fn set_bars(table: &[u16], roots: &[u16], bars: &mut [u16; Thread::COUNT])
+    requires { ⌜ Rooted (now table) (now roots) × (now bars ≡ replicate (maxThread + 1) noRoot) ⌝ }
+    ensures { λ _. ⌜ Bars (trace (now (table .entry))) (now (roots .entry)) (now (bars .exit)) ⌝ }
+{
+    let mut i = 0;
+    while i < roots.len() {
+        let c = table::thread_place(table, entry(roots, i));
+        bars[c] = roots[i];
+        i += 1;
+    }
 }
 
 // Is event k by the thread of a root?
-fn exempt(table: &[u16], roots: &[u16], k: usize) -> bool
-    requires { ⌜ Valid (trace (now table)) k × Roots (trace (now table)) (now roots) ⌝ }
-    ensures { λ r. ⌜ r ≡ isExempt (trace (now (table .entry))) (now (roots .entry)) k ⌝ }
+fn has_root(table: &[u16], bars: &[u16; Thread::COUNT], k: usize) -> bool
+    requires { ⌜ Good (trace (now table)) × Valid (trace (now table)) k ⌝ }
+    ensures { λ r. ⌜ r ≡ hasRoot (now (bars .entry)) (threadOf (trace (now (table .entry))) k) ⌝ }
 {
-    let c = table::thread_at(table, k);
-    let mut i = 0;
-    while i < roots.len() {
-        if table::thread_at(table, entry(roots, i)) == c {
+    let c = table::thread_place(table, k);
+    bars[c] != NO_ROOT
+}
+
+// Event k, if it is one, is in the cone: the top of its thread is no lower. Is a root in the cone then?
+fn raise(
+    table: &[u16],
+    bars: &[u16; Thread::COUNT],
+    k: usize,
+    tops: &mut [u16; Thread::COUNT],
+) -> bool
+    requires { ⌜ Raising (now table) (now bars) (now tops) × Coming (trace (now table)) (now bars) k ⌝ }
+    ensures { λ r. ⌜ Answer (trace (now (table .entry))) (now (bars .entry)) (Raised (trace (now (table .entry))) (now (bars .entry)) k (now (tops .entry)) (now (tops .exit))) r ⌝ }
+{
+    if k < 1 {
+        return false;
+    }
+    let c = table::thread_place(table, k);
+    if k <= place(tops, c) {
+        return false;
+    }
+    if place(bars, c) <= k {
+        return true;
+    }
+    tops[c] = k as u16;
+    false
+}
+
+// What event k, which is in the cone, brings in: its observed write (rule iii) and, unless its thread is a root's (`exempt`), its matching release (iv);
+// a last release is linked to itself. Is a root in the cone then?
+fn bring(
+    table: &[u16],
+    bars: &[u16; Thread::COUNT],
+    k: usize,
+    exempt: bool,
+    tops: &mut [u16; Thread::COUNT],
+) -> bool
+    requires { ⌜ Raising (now table) (now bars) (now tops) × (Within (trace (now table)) (now bars) k × (exempt ≡ hasRoot (now bars) (threadOf (trace (now table)) k))) ⌝ }
+    ensures { λ r. ⌜ Answer (trace (now (table .entry))) (now (bars .entry)) (BringsIn (trace (now (table .entry))) (now (bars .entry)) k (now (tops .entry)) (now (tops .exit))) r ⌝ }
+{
+    if raise(table, bars, table::observed_at(table, k), tops) {
+        return true;
+    }
+    if exempt {
+        return false;
+    }
+    raise(table, bars, table::released_at(table, k), tops)
+}
+
+// The events of a thread from event `from` back to event `to`, which is left out: each brings in its own (rule ii). Is a root in the cone then?
+fn follow(
+    table: &[u16],
+    bars: &[u16; Thread::COUNT],
+    from: usize,
+    to: usize,
+    tops: &mut [u16; Thread::COUNT],
+) -> bool
+    requires { ⌜ Raising (now table) (now bars) (now tops) × Within (trace (now table)) (now bars) from ⌝ }
+    ensures { λ r. ⌜ Answer (trace (now (table .entry))) (now (bars .entry)) (Follows (trace (now (table .entry))) (now (bars .entry)) from to (now (tops .entry)) (now (tops .exit))) r ⌝ }
+{
+    let exempt = has_root(table, bars, from);
+    let mut k = from;
+    while to < k {
+        if bring(table, bars, k, exempt, tops) {
             return true;
         }
-        i += 1;
+        k = table::previous_at(table, k);
     }
     false
 }
 
-// Flags what event k brings in, where it is flagged itself: the event before it in its thread (rule ii), its observed write (iii) and,
-// unless its thread is a root's, its matching release (iv); a last release is linked to itself. Gives that release where it is newly flagged, or 0.
-fn bring(table: &[u16], roots: &[u16], k: usize, flags: &mut [u8]) -> usize
-    requires { ⌜ Rooted (now table) (now roots) × (Valid (trace (now table)) k × Sound (trace (now table)) (now roots) (now flags)) ⌝ }
-    ensures { λ r. ⌜ BringsIn (trace (now (table .entry))) (now (roots .entry)) k r (now (flags .entry)) (now (flags .exit)) ⌝ }
+// Thread c is followed from its top back to where it was followed before. Is a root in the cone then?
+fn catch_up(
+    table: &[u16],
+    bars: &[u16; Thread::COUNT],
+    c: usize,
+    done: &mut [u16; Thread::COUNT],
+    tops: &mut [u16; Thread::COUNT],
+) -> bool
+    requires { ⌜ Going (now table) (now bars) (now done) (now tops) × (c ≤ maxThread) ⌝ }
+    ensures { λ r. ⌜ Answer (trace (now (table .entry))) (now (bars .entry)) (Caught (trace (now (table .entry))) (now (bars .entry)) c (now (done .entry)) (now (done .exit)) (now (tops .entry)) (now (tops .exit))) r ⌝ }
 {
-    if flags[k] != 1 {
-        return 0;
+    let from = place(tops, c);
+    let to = place(done, c);
+    if from <= to {
+        return false;
     }
-    let p = table::previous_at(table, k);
-    flags[p] = 1;
-    let o = table::observed_at(table, k);
-    flags[o] = 1;
-    let r = table::released_at(table, k);
-    if flags[r] == 1 {
-        return 0;
+    done[c] = tops[c];
+    follow(table, bars, from, to, tops)
+}
+
+// Is a thread followed less far than its top?
+fn behind(done: &[u16; Thread::COUNT], tops: &[u16; Thread::COUNT]) -> bool
+    ensures { λ r. ⌜ Behind (now (done .entry)) (now (tops .entry)) r ⌝ }
+{
+    let mut c = 0;
+    while c < Thread::COUNT {
+        if place(done, c) < place(tops, c) {
+            return true;
+        }
+        c += 1;
     }
-    if exempt(table, roots, k) {
-        return 0;
+    false
+}
+
+// Each thread is followed from its top. Is a root in the cone then?
+fn round(
+    table: &[u16],
+    bars: &[u16; Thread::COUNT],
+    done: &mut [u16; Thread::COUNT],
+    tops: &mut [u16; Thread::COUNT],
+) -> bool
+    requires { ⌜ Going (now table) (now bars) (now done) (now tops) ⌝ }
+    ensures { λ r. ⌜ Answer (trace (now (table .entry))) (now (bars .entry)) (Round (trace (now (table .entry))) (now (bars .entry)) (maxThread + 1) (now (done .entry)) (now (done .exit)) (now (tops .entry)) (now (tops .exit))) r ⌝ }
+{
+    let mut c = 0;
+    while c < Thread::COUNT {
+        if catch_up(table, bars, c, done, tops) {
+            return true;
+        }
+        c += 1;
     }
-    flags[r] = 1;
+    false
+}
+
+// The event before root r in its thread is in the cone (rule i), and the thread is followed from there. Is a root in the cone then?
+fn start(
+    table: &[u16],
+    bars: &[u16; Thread::COUNT],
+    r: usize,
+    done: &mut [u16; Thread::COUNT],
+    tops: &mut [u16; Thread::COUNT],
+) -> bool
+    requires { ⌜ Going (now table) (now bars) (now done) (now tops) × IsRoot (trace (now table)) (now bars) r ⌝ }
+    ensures { λ x. ⌜ Answer (trace (now (table .entry))) (now (bars .entry)) (Started (trace (now (table .entry))) (now (bars .entry)) r (now (done .exit)) (now (tops .entry)) (now (tops .exit))) x ⌝ }
+{
+    if raise(table, bars, table::previous_at(table, r), tops) {
+        return true;
+    }
+    catch_up(table, bars, table::thread_place(table, r), done, tops)
+}
+
+// So from each root, the last one first: below the higher event of a pair the lower one is found soonest. Is a root in the cone then?
+fn seed(
+    table: &[u16],
+    bars: &[u16; Thread::COUNT],
+    roots: &[u16],
+    done: &mut [u16; Thread::COUNT],
+    tops: &mut [u16; Thread::COUNT],
+) -> bool
+    requires { ⌜ Going (now table) (now bars) (now done) (now tops) × Bars (trace (now table)) (now roots) (now bars) ⌝ }
+    ensures { λ r. ⌜ Answer (trace (now (table .entry))) (now (bars .entry)) (Seeded (trace (now (table .entry))) (now (bars .entry)) (now (roots .entry)) 0 (now (done .exit)) (now (tops .exit))) r ⌝ }
+{
+    let mut i = roots.len();
+    while 0 < i {
+        i -= 1;
+        if start(table, bars, entry(roots, i), done, tops) {
+            return true;
+        }
+    }
+    false
+}
+
+// Is no root in the causal cone of the roots? Then the tops are how far it reaches into each thread; they are lent as 0.
+pub fn outside(table: &[u16], roots: &[u16], tops: &mut [u16; Thread::COUNT]) -> bool
+    requires { ⌜ Rooted (now table) (now roots) × (now tops ≡ replicate (maxThread + 1) 0) ⌝ }
+    ensures { λ r. ⌜ Told (trace (now (table .entry))) (now (roots .entry)) (now (tops .exit)) r ⌝ }
+{
+    let mut bars = [NO_ROOT; Thread::COUNT];
+    set_bars(table, roots, &mut bars);
+    let mut done = [0u16; Thread::COUNT];
+    if seed(table, &bars, roots, &mut done, tops) {
+        return false;
+    }
+    while behind(&done, tops) {
+        if round(table, &bars, &mut done, tops) {
+            return false;
+        }
+    }
+    true
+}
+
+// Thread m's events up to its top, found from the last one back, so they are put at the end of out, in the trace's order. Gives the place of the first.
+pub fn moved(table: &[u16], m: u8, tops: &[u16; Thread::COUNT], out: &mut [u16]) -> usize
+    requires { ⌜ Splits (now table) (now tops) m (now out) ⌝ }
+    ensures { λ r. ⌜ Moved (trace (now (table .entry))) m (now (tops .entry)) r (now (out .exit)) ⌝ }
+{
+    let mut r = out.len();
+    let mut k = place(tops, m as usize);
+    while 0 < k {
+        r -= 1;
+        out[r] = k as u16;
+        k = table::previous_at(table, k);
+    }
     r
+}
+
+// Is event k up to the top of its thread, and by another thread than m?
+fn is_other(table: &[u16], m: u8, tops: &[u16; Thread::COUNT], k: usize) -> bool
+    requires { ⌜ Good (trace (now table)) × Valid (trace (now table)) k ⌝ }
+    ensures { λ r. ⌜ r ≡ isOf (trace (now (table .entry))) (allBut m) (now (tops .entry)) k ⌝ }
+{
+    let c = table::thread_place(table, k);
+    if c == m as usize {
+        return false;
+    }
+    k <= place(tops, c)
+}
+
+// Puts event k, where it is such a one, at place r of out. Gives the next free place.
+fn put(
+    table: &[u16],
+    m: u8,
+    tops: &[u16; Thread::COUNT],
+    k: usize,
+    out: &mut [u16],
+    r: usize,
+) -> usize
+    requires { ⌜ Good (trace (now table)) × (Valid (trace (now table)) k × Putting (trace (now table)) m (now tops) k r (now out)) ⌝ }
+    ensures { λ x. ⌜ Putting (trace (now (table .entry))) m (now (tops .entry)) (k + 1) x (now (out .exit)) × (length (now (out .exit)) ≡ length (now (out .entry))) ⌝ }
+{
+    if !is_other(table, m, tops, k) {
+        return r;
+    }
+    out[r] = k as u16;
+    r + 1
 }
 
 // The higher of two numbers.
@@ -70,91 +288,29 @@ fn higher(a: usize, b: usize) -> usize
     a
 }
 
-// One sweep, from event `from` down: it comes to what it flags, but for the releases, which are above. Gives the highest of these, or 0.
-fn sweep(table: &[u16], roots: &[u16], from: usize, flags: &mut [u8]) -> usize
-    requires { ⌜ Rooted (now table) (now roots) × Closing (trace (now table)) (now roots) from (now flags) ⌝ }
-    ensures { λ r. ⌜ Closing (trace (now (table .entry))) (now (roots .entry)) r (now (flags .exit)) × Grown r (now (flags .entry)) (now (flags .exit)) ⌝ }
+// The highest top.
+fn highest(tops: &[u16; Thread::COUNT]) -> usize
+    ensures { λ r. ⌜ Highest (now (tops .entry)) (maxThread + 1) r ⌝ }
 {
-    let mut top = 0;
-    let mut k = from;
-    while 0 < k {
-        top = higher(top, bring(table, roots, k, flags));
-        k -= 1;
+    let mut n = 0;
+    let mut c = 0;
+    while c < Thread::COUNT {
+        n = higher(n, place(tops, c));
+        c += 1;
     }
-    top
+    n
 }
 
-// Flags no event, and place 0.
-fn clear(flags: &mut [u8])
-    requires { ⌜ 0 < length (now flags) ⌝ }
-    ensures { λ _. ⌜ now (flags .exit) ≡ set (replicate (length (now (flags .entry))) 0) 0 1 ⌝ }
+// The events of all threads but m up to their tops, in the front of out, in the trace's order. Gives how many there are.
+pub fn others(table: &[u16], m: u8, tops: &[u16; Thread::COUNT], out: &mut [u16]) -> usize
+    requires { ⌜ Splits (now table) (now tops) m (now out) ⌝ }
+    ensures { λ r. ⌜ Others (trace (now (table .entry))) m (now (tops .entry)) r (now (out .exit)) ⌝ }
 {
-    bits::clear(flags);
-    flags[0] = 1;
-}
-
-// Flags the event before each root in its thread (rule i), and place 0.
-fn seed(table: &[u16], roots: &[u16], flags: &mut [u8])
-    requires { ⌜ Rooted (now table) (now roots) × (length (trace (now table)) < length (now flags)) ⌝ }
-    ensures { λ _. ⌜ Seeded (trace (now (table .entry))) (now (roots .entry)) (length (now (roots .entry))) (now (flags .exit)) ⌝ }
-{
-    clear(flags);
-    let mut i = 0;
-    while i < roots.len() {
-        let p = table::previous_at(table, entry(roots, i));
-        flags[p] = 1;
-        i += 1;
-    }
-}
-
-// The causal cone of the roots: sweeps until nothing is left to bring in.
-pub fn cone_flags(table: &[u16], roots: &[u16], flags: &mut [u8])
-    requires { ⌜ Rooted (now table) (now roots) × (length (trace (now table)) < length (now flags)) ⌝ }
-    ensures { λ _. ⌜ ConeFlags (trace (now (table .entry))) (now (roots .entry)) (now (flags .exit)) ⌝ }
-{
-    seed(table, roots, flags);
-    let mut k = table::count(table);
-    while 0 < k {
-        k = sweep(table, roots, k, flags);
-    }
-}
-
-// Is event k flagged, and of this side: by thread m (`side` is true), or by another (false)?
-fn chosen(table: &[u16], flags: &[u8], m: u8, side: bool, k: usize) -> bool
-    requires { ⌜ Valid (trace (now table)) k × (k < length (now flags)) ⌝ }
-    ensures { λ r. ⌜ r ≡ isChosen (trace (now (table .entry))) m side (now (flags .entry)) k ⌝ }
-{
-    if flags[k] != 1 {
-        return false;
-    }
-    if table::thread_at(table, k) == m {
-        return side;
-    }
-    !side
-}
-
-// Puts event k, where it is chosen, at place r of out. Gives the next free place.
-fn put(table: &[u16], flags: &[u8], m: u8, side: bool, k: usize, out: &mut [u16], r: usize) -> usize
-    requires { ⌜ Pickable (trace (now table)) (now flags) (now out) × (Valid (trace (now table)) k × Picking (trace (now table)) m side (now flags) k r (now out)) ⌝ }
-    ensures { λ x. ⌜ Picking (trace (now (table .entry))) m side (now (flags .entry)) (k + 1) x (now (out .exit)) × (length (now (out .exit)) ≡ length (now (out .entry))) ⌝ }
-{
-    if !chosen(table, flags, m, side, k) {
-        return r;
-    }
-    out[r] = k as u16;
-    r + 1
-}
-
-// Puts the flagged events of one side in the front of out, in the trace's order. Gives how many there are.
-pub fn pick(table: &[u16], flags: &[u8], m: u8, side: bool, out: &mut [u16]) -> usize
-    requires { ⌜ Pickable (trace (now table)) (now flags) (now out) ⌝ }
-    ensures { λ r. ⌜ Picked (trace (now (table .entry))) m side (now (flags .entry)) r (now (out .exit)) ⌝ }
-{
-    let n = table::count(table);
+    let n = highest(tops);
     let mut r = 0;
     let mut k = 1;
     while k <= n {
-        r = put(table, flags, m, side, k, out, r);
+        r = put(table, m, tops, k, out, r);
         k += 1;
     }
     r

@@ -10,13 +10,13 @@ use borrow.Author.Tests.{eqb-true, eq-eqb, leb-true, le-leb}
 use Rattle.model.specs.Trace.{Trace, Valid, read, acquire, threadOf, kindOf}
 use Rattle.model.specs.Lists.{own, before}
 use Rattle.model.specs.Good.{Free}
-use Rattle.model.specs.Reordering.{Next, Sees, Step, CorrectFrom, EnabledAfter, BringsBoth}
+use Rattle.model.specs.Reordering.{Next, Sees, Step, Correct, CorrectFrom, EnabledAfter, BringsBoth}
 use Rattle.model.specs.Rows.{Row, First, Quiet, Tested, numbered, first, orZero}
 use Rattle.model.specs.Check.{placeRows, listRows, enabledRows, checkRows, CheckAnswer}
-use Rattle.decision.specs.Check.{sameList, isValid, isNext, isSeen, isOpen, isFree, placeTests, placeFault, firstOf, faultFrom, isEnabled, check}
+use Rattle.decision.specs.Check.{sameList, isValid, isNext, isSeen, isOpen, isFree, placeTests, placeFault, firstOf, faultFrom, isCorrect, isEnabled, check}
 use Rattle.model.proofs.Tests.{both, true-both, either-true, true-either}
 use Rattle.model.proofs.Threads.{for-pair, in-pair-a, in-pair-b}
-use Rattle.model.proofs.RowsExact.{first-only, none-quiet, both-quiet, quiet-both, not-exactly, kind-exactly, surely, tests-number, number-only, skip, stop}
+use Rattle.model.proofs.RowsExact.{first-only, none-quiet, quiet-none, both-quiet, quiet-both, not-exactly, kind-exactly, surely, tests-number, number-only, skip, stop}
 
 -- ---- rows after rows
 
@@ -26,7 +26,7 @@ numbers-first l m (suc a) b f g = stop l m _ f
 
 -- ---- the tests
 
-same-eq : (l r : List ℕ) → sameList l r ≡ true → l ≡ r
+pub same-eq : (l r : List ℕ) → sameList l r ≡ true → l ≡ r
 unfolding sameList
 same-eq [] [] e = refl
 same-eq [] (y ∷ r) e = absurd (false≢true e)
@@ -34,7 +34,7 @@ same-eq (x ∷ l) [] e = absurd (false≢true e)
 same-eq (x ∷ l) (y ∷ r) e =
     let p = both (eqb x y) (sameList l r) e in ap₂ (λ (a : ℕ) (b : List ℕ). a ∷ b) (eqb-true x y (p .0)) (same-eq l r (p .1))
 
-same-refl : (l : List ℕ) → sameList l l ≡ true
+pub same-refl : (l : List ℕ) → sameList l l ≡ true
 unfolding sameList
 same-refl [] = refl
 same-refl (x ∷ l) = true-both (eq-eqb x x refl) (same-refl l)
@@ -119,6 +119,14 @@ module _ (t : Trace) where
   correct-quiet : (h ρ : List ℕ) → CorrectFrom t h ρ → Quiet (listRows t h ρ)
   correct-quiet h [] c = tt
   correct-quiet h (k ∷ ρ) c = quiet-both (placeRows t h k) (listRows t (k ∷ h) ρ) (step-quiet h k (c .0)) (correct-quiet (k ∷ h) ρ (c .1))
+
+  -- correct exactly where no place has a fault
+  pub correct-exactly : (ρ : List ℕ) → (isCorrect t ρ ≡ true) ↔ Correct t ρ
+  unfolding isCorrect
+  correct-exactly ρ = (
+    (λ e. let z = eqb-true (faultFrom t [] ρ) 0 e in quiet-correct [] ρ (none-quiet (listRows t [] ρ) (rw z at (list-first [] ρ)))),
+    (λ c. eq-eqb _ _ (number-only (faultFrom t [] ρ) 0 (first-only (listRows t [] ρ) (list-first [] ρ) (quiet-none (listRows t [] ρ) (correct-quiet [] ρ c))))),
+  )
 
   -- ---- the check
 

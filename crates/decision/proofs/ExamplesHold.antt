@@ -6,15 +6,15 @@ use mathlib.Core.Bool.{cond}
 use mathlib.Core.Option.{Option, none, some}
 use mathlib.Core.List.{List, [], _∷_, map, head-eq-of-cons-eq, tail-eq-of-cons-eq, List·Memᴰ, List·Memᴰ·head, List·Memᴰ·tail}
 use lib.ListN.{length}
-use Rattle.model.specs.Trace.{does}
-use Rattle.model.specs.Lists.{listed, just, allBut, threads}
+use Rattle.model.specs.Trace.{Trace, read, write, acquire, release, does}
+use Rattle.model.specs.Lists.{listed, just, allBut, threads, pair}
 use Rattle.model.specs.Observed.{observed}
 use Rattle.model.specs.Sections.{ownDepth, isOutermost, isLast}
 use Rattle.model.specs.Cone.{givesBack, matching}
-use Rattle.decision.specs.Check.{sameList, isValid, isNext, isSeen, isFree, placeTests, placeFault, faultFrom, isEnabled, check}
+use Rattle.decision.specs.Check.{sameList, isValid, isNext, isSeen, isFree, placeTests, placeFault, faultFrom, isCorrect, isEnabled, check}
 use Rattle.decision.specs.Refusals.{eventTests, isGood}
 use Rattle.decision.specs.Rounds.{isBrought, rounds, isEarlier, isRooted, isObserved, isExempt, isClosing, brings, cone}
-use Rattle.decision.specs.Grid.{sawOther, sawNone, readStep, writeStep, lockStep, mayStep, stepAt, path}
+use Rattle.decision.specs.Stairs.{isOpening, isAlike, isWithin, isOverwriting, isReadOver, isUnended, isBound, isKeptApart, isRising, isForced, raised, settled, leastStairs, climb, leastMerge}
 use Rattle.decision.specs.Decision.{shownFor, isAccess, isConflicting, conflictingPairs, races}
 use Rattle.model.specs.Examples.{Example, Proposal, HoldsOf, proposal, examples}
 use Rattle.model.proofs.Tests.{by-cases}
@@ -33,11 +33,33 @@ computed e =
 
 -- the one test
 pub examples-hold : map computed examples ≡ map some examples
-unfolding does listed just allBut threads observed ownDepth isOutermost isLast givesBack matching sameList isValid isNext isSeen isFree placeTests placeFault faultFrom isEnabled check
+unfolding does listed just allBut threads observed ownDepth isOutermost isLast givesBack matching sameList isValid isNext isSeen isFree placeTests placeFault faultFrom isCorrect isEnabled check
     eventTests isGood
-    isBrought rounds isEarlier isRooted isObserved isExempt isClosing brings cone sawOther sawNone readStep writeStep lockStep mayStep stepAt path
+    isBrought rounds isEarlier isRooted isObserved isExempt isClosing brings cone isOpening isAlike isWithin isOverwriting isReadOver isUnended isBound isKeptApart isRising isForced raised settled leastStairs climb leastMerge
     shownFor isAccess isConflicting conflictingPairs races
 examples-hold = refl
+
+-- ---- the other thread moved: what the least staircase has is asked for, and what it must not have too
+
+-- T0: 1 acq l, 2 w(x), 3 w(z), 4 rel l; T1: 5 acq l, 6 r(x), 7 rel l, 8 r(z)
+abbrev underLock : Trace
+underLock =
+    record { thread = 0; kind = acquire; object = 0 }
+    ∷ record { thread = 0; kind = write; object = 0 }
+    ∷ record { thread = 0; kind = write; object = 2 }
+    ∷ record { thread = 0; kind = release; object = 0 }
+    ∷ record { thread = 1; kind = acquire; object = 0 }
+    ∷ record { thread = 1; kind = read; object = 0 }
+    ∷ record { thread = 1; kind = release; object = 0 }
+    ∷ record { thread = 1; kind = read; object = 2 }
+    ∷ []
+
+-- with thread 1 moved, the section of T1 must stand before that of T0, which has no end; but 6 observed 2, so it must not: there is no reordering
+pub upper-bounds-asked : (leastMerge underLock (5 ∷ 6 ∷ 7 ∷ []) (1 ∷ 2 ∷ []) ≡ 5 ∷ 6 ∷ 7 ∷ 1 ∷ 2 ∷ []) × (shownFor underLock (pair 3 8) 1 ≡ none)
+unfolding does listed just allBut observed ownDepth isOutermost isLast givesBack matching sameList isValid isNext isSeen isFree placeTests placeFault faultFrom isCorrect
+    isBrought rounds isEarlier isRooted isObserved isExempt isClosing brings cone
+    isOpening isAlike isWithin isOverwriting isReadOver isUnended isBound isKeptApart isRising isForced raised settled leastStairs climb leastMerge shownFor
+upper-bounds-asked = (refl, refl)
 
 -- ---- the table's rows, one by one
 

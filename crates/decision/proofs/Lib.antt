@@ -3,9 +3,23 @@ pub mod CheckExact
 -- 6
 pub mod LeastSet
 pub mod ConeExact
-pub mod GridSteps
-pub mod Merges
-pub mod SearchExact
+-- 6, lists in order, sections, and an order that fits the rules
+pub mod InOrder
+pub mod Holds
+pub mod Solutions
+pub mod ConeParts
+pub mod Fits
+pub mod CandidateFits
+-- 6, candidates are the merges by solutions
+pub mod Climbs
+pub mod SolutionFits
+pub mod FitsSolution
+pub mod SolutionExactly
+-- 6, the least staircase gives the one shown
+pub mod LeastStairs
+pub mod IntervalTests
+pub mod ForcedExact
+pub mod ShownExact
 -- 7
 pub mod OrderExact
 pub mod ListingExact

@@ -19,19 +19,19 @@ use Rattle.model.proofs.Lists.{numbers-mem, increasing-numbers}
 use Rattle.model.proofs.Threads.{conflicting-apart}
 use Rattle.decision.proofs.OrderExact.{first-after-exactly, none-after-exactly}
 use Rattle.decision.proofs.CheckExact.{valid-true, true-valid}
-use Rattle.decision.proofs.SearchExact.{search-exactly, search-none}
+use Rattle.decision.proofs.ShownExact.{shown-exactly, shown-none}
 
 -- ---- the verdict on a conflicting pair
 
 module _ (t : Trace) (w : WellFormed t) (a b : ℕ) (c : Conflicting t a b) where
   pub witness-exactly : (ρ : List ℕ) → (witness t a b ≡ some ρ) ↔ Witness t a b ρ
-  witness-exactly ρ = search-exactly t (pair a b) (threadOf t a) (conflicting-apart t a b c .valid) w ρ
+  witness-exactly ρ = shown-exactly t (pair a b) (threadOf t a) (conflicting-apart t a b c .valid) w ρ
 
   pub reported-answered : Reported t a b ↔ ((ρ : List ℕ) × (witness t a b ≡ some ρ))
   reported-answered = ((λ r. go r (witness t a b) refl), (λ x. (x .0, witness-exactly (x .0) .0 (x .1) .candidate)))
     where
       go : Reported t a b → (o : Option (List ℕ)) → witness t a b ≡ o → (ρ : List ℕ) × (witness t a b ≡ some ρ)
-      go r none e = absurd (search-none t (pair a b) (threadOf t a) (conflicting-apart t a b c .valid) w .0 e (r .0) (r .1))
+      go r none e = absurd (shown-none t (pair a b) (threadOf t a) (conflicting-apart t a b c .valid) w .0 e (r .0) (r .1))
       go r (some ρ) e = (ρ, e)
 
   -- a pair is reported exactly when it has a witness

@@ -51,6 +51,10 @@ unfoldable pub faultFrom : Trace → List ℕ → List ℕ → ℕ
 faultFrom t h [] = 0
 faultFrom t h (k ∷ ρ) = firstOf (placeFault t h k) (faultFrom t (k ∷ h) ρ)
 
+-- a correct reordering
+unfoldable pub isCorrect : Trace → List ℕ → Bool
+isCorrect t ρ = eqb (faultFrom t [] ρ) 0
+
 -- enabled after the whole list
 unfoldable pub isEnabled : Trace → List ℕ → ℕ → Bool
 isEnabled t ρ k = isNext t (reverse ρ) k

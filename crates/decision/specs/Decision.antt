@@ -1,16 +1,15 @@
 -- The executable decision, last part: the witness of a pair, the listing, and the first race after two given numbers.
-use Prim.Native.Nat.{ℕ, _+_}
+use Prim.Native.Nat.{ℕ}
 use mathlib.Core.Bool.{Bool, cond, _&&_, _||_, not}
 use mathlib.Core.Option.{Option, none, some}
 use mathlib.Core.List.{List, [], _∷_, _++_}
-use lib.ListN.{length}
 use lib.Dec.{eqb, ltb}
 use Rattle.model.specs.Trace.{Trace, read, write, threadOf, kindOf, objectOf}
 use Rattle.model.specs.Lists.{own, only, allBut, anyIn, listed, numbers, pair}
-use Rattle.decision.specs.Check.{isValid}
+use Rattle.decision.specs.Check.{isValid, isCorrect}
 use Rattle.model.specs.Listing.{Race, pairOf}
 use Rattle.decision.specs.Rounds.{cone}
-use Rattle.decision.specs.Grid.{path}
+use Rattle.decision.specs.Stairs.{leastMerge}
 use Rattle.decision.specs.Order.{firstAfter}
 
 -- the reordering shown for the roots R with thread m as the moved thread, if there is one
@@ -19,8 +18,8 @@ shownFor t R m =
     let c = cone t R in
     let P = own t m c in
     let Q = only t (allBut m) c in
-    let ρ = path t m P Q (length P + length Q) 0 0 in
-    cond (anyIn (λ r. listed r c) R) none ρ
+    let ρ = leastMerge t P Q in
+    cond (anyIn (λ r. listed r c) R) none (cond (isCorrect t ρ) (some ρ) none)
 
 -- question 3 on a conflicting pair: its witness, or not reported
 abbrev pub witness : Trace → ℕ → ℕ → Option (List ℕ)

@@ -1,7 +1,7 @@
 pub mod Check
 pub mod Refusals
 pub mod Rounds
-pub mod Grid
+pub mod Stairs
 pub mod Order
 pub mod Decision
 pub mod StaysTrue

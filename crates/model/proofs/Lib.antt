@@ -1,6 +1,7 @@
 -- What the theorems rest on.
 pub mod Tests
 pub mod Lists
+pub mod Passed
 pub mod Histories
 pub mod Locks
 pub mod SectionsExact

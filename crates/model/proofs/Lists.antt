@@ -6,7 +6,7 @@ use mathlib.Core.Path.{_≡_, refl, sym, _∙_, ap}
 use mathlib.Core.Logic.{_≢_, _⊎_, inl, inr, ⊎-elim}
 use mathlib.Core.Bool.{Bool, true, false, false≢true}
 use mathlib.Core.List.{List, [], _∷_, _++_, reverse, reverseAux, reverseAux-eq, nil≢cons, head-eq-of-cons-eq, tail-eq-of-cons-eq, List·Memᴰ·head, List·Memᴰ·tail, List·Memᴰ·not-nil}
-use lib.ListN.{length, take, drop}
+use lib.ListN.{length, getD, take, drop}
 use lib.Seq.{sets, sets-eq, take-append-seam, length-take-le}
 use lib.Dec.{eqb, leb}
 use borrow.Author.Tests.{eqb-true, eq-eqb, leb-true, leb-false}
@@ -44,6 +44,10 @@ module _ (p : ℕ → Bool) where
   pub nearest-mem : (l : List ℕ) → nearest p l ≢ 0 → nearest p l ∈ l
   nearest-mem [] ne = absurd (ne refl)
   nearest-mem (k ∷ l) ne = by-cases (p k) (λ e. rw e (List·Memᴰ·head refl)) (λ e. rw e (List·Memᴰ·tail (nearest-mem l (rw e at ne))))
+
+  pub nearest-passes : (l : List ℕ) → nearest p l ≢ 0 → p (nearest p l) ≡ true
+  nearest-passes [] ne = absurd (ne refl)
+  nearest-passes (k ∷ l) ne = by-cases (p k) (λ e. rw e e) (λ e. rw e (nearest-passes l (rw e at ne)))
 
   -- of positive numbers, none passes exactly where there is no nearest
   pub nearest-none : (l : List ℕ) → ((k : ℕ) → k ∈ l → ¬ (p k ≡ true)) → nearest p l ≡ 0
@@ -119,6 +123,17 @@ listed-mem k l e =
     let r = mem-any (λ j. eqb k j) l e in
     let q : k ≡ r .0 = eqb-true k (r .0) (r .2) in
     rw q (r .1)
+
+-- the member at a place
+pub getD-mem : (l : List ℕ) (i : ℕ) → i < length l → getD l i 0 ∈ l
+getD-mem [] i p = absurd (omega arith)
+getD-mem (x ∷ l) zero p = List·Memᴰ·head refl
+getD-mem (x ∷ l) (suc i) p = List·Memᴰ·tail (getD-mem l i (omega arith))
+
+-- the place of a member
+pub mem-place : {k : ℕ} {l : List ℕ} → k ∈ l → (n : ℕ) × (n < length l) × (getD l n 0 ≡ k)
+mem-place (List·Memᴰ·head e) = (0, omega arith, sym e)
+mem-place (List·Memᴰ·tail m) = let x = mem-place m in (suc (x .0), (let h = x .1 in omega arith), x .2)
 
 -- ---- the events of a set of threads
 

@@ -3,7 +3,7 @@ use Prim.Native.Nat.{ℕ, zero, suc, _-_, _≤_, _<_, zero-le}
 use native.Mathlib.Omega.{arith}
 use native.Mathlib.Nat.{suc-inj}
 use mathlib.Core.Path.{_≡_, refl, sym, _∙_, ap}
-use mathlib.Core.Logic.{_≢_, _⊎_, inl, inr, _↔_}
+use mathlib.Core.Logic.{_⊎_, inl, inr, _↔_}
 use mathlib.Core.Bool.{Bool, true, false, cond}
 use mathlib.Core.List.{List, [], _∷_, List·Memᴰ·head, List·Memᴰ·tail}
 use lib.ListN.{length}
@@ -140,23 +140,10 @@ module _ (t : Trace) (s : ℕ → Bool) where
   pub held-part : (x : ℕ) (h : List ℕ) → Locked t h → (c : ℕ) → holder t x (only t s h) ≡ suc c → (holder t x h ≡ suc c) × (s c ≡ true)
   held-part x h l c e = through-suc s (holder t x h) c (sym (lock-only x h l .0) ∙ e)
 
--- nobody holds a lock where nobody does in both parts of the events
-pub nobody-parts : (t : Trace) (s r : ℕ → Bool) → ((c : ℕ) → s c ≡ false → r c ≡ true) → (h : List ℕ) → Locked t h → (x : ℕ)
-    → holder t x (only t s h) ≡ 0 → holder t x (only t r h) ≡ 0 → holder t x h ≡ 0
-nobody-parts t s r f h l x p q = go (holder t x h) refl
-  where
-    -- a holder would be of one of the parts
-    part : (v : ℕ → Bool) (c : ℕ) → v c ≡ true → holder t x h ≡ suc c → holder t x (only t v h) ≢ 0
-    part v c y e z = let u : holder t x (only t v h) ≡ suc c = lock-only t v x h l .0 ∙ ap (through v) e ∙ rw y in let n : ⊥ = omega arith in n
-
-    go : (n : ℕ) → holder t x h ≡ n → holder t x h ≡ 0
-    go zero e = e
-    go (suc c) e = absurd (by-cases (s c) (λ y. part s c y e p) (λ y. part r c (f c y) e q))
-
 -- ---- in a correct reordering of a well-formed trace every release is by the holder
 
 module _ (t : Trace) (w : WellFormed t) where
-  locked-upTo : (m : ℕ) → m ≤ length t → Locked t (upTo m)
+  pub locked-upTo : (m : ℕ) → m ≤ length t → Locked t (upTo m)
   unfolding Locked
   locked-upTo zero p = tt
   locked-upTo (suc m) p =

@@ -4,7 +4,7 @@ use mathlib.Core.Path.{_≡_}
 use mathlib.Core.Logic.{_≢_}
 use mathlib.Core.Bool.{Bool, true, false, cond, _||_, not}
 use mathlib.Core.List.{List, [], _∷_, _++_, reverse, List·Memᴰ}
-use lib.ListN.{length, drop}
+use lib.ListN.{length, take, drop}
 use lib.Dec.{eqb}
 use Rattle.model.specs.Trace.{Trace, Valid, threadOf}
 
@@ -49,6 +49,10 @@ anyIn p (k ∷ l) = p k || anyIn p l
 
 unfoldable pub listed : ℕ → List ℕ → Bool
 listed k l = anyIn (λ j. eqb k j) l
+
+-- what was passed of a list at place i, latest first
+abbrev pub passed : List ℕ → ℕ → List ℕ
+passed l i = reverse (take i l)
 
 -- two events
 abbrev pub pair : ℕ → ℕ → List ℕ

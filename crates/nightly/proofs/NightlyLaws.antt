@@ -1,6 +1,6 @@
 -- The ways through the program.
 use Prim.Native.Nat.{ℕ}
-use mathlib.Core.Path.{_≡_, refl, _∙_, ap}
+use mathlib.Core.Path.{_≡_, refl, _∙_}
 use mathlib.Core.List.{List}
 use lib.ListN.{length}
 use Rattle.table.specs.Table.{trace}
@@ -12,21 +12,19 @@ use Rattle.report.specs.declared.Progress.the-variants.{More}
 use Rattle.report.proofs.WritingLaws.{more-again}
 
 -- the report is written as far as a position, and what is lent is as long as it was
-pub record Between (table list₀ area₀ out₀ list area out : List ℕ) (p : Position) : Type 0 where
-  pub writing : Writing table p list area 0 out
+pub record Between (table list₀ out₀ list out : List ℕ) (p : Position) : Type 0 where
+  pub writing : Writing table p list 0 out
   pub list-long : length list ≡ length list₀
-  pub area-long : length area ≡ length area₀
   pub out-long : length out ≡ length out₀
 
-pub between-start : {table list area out : List ℕ} → Writing table atStart list area 0 out → (p : Position) → p ≡ atStart → Between table list area out list area out p
-between-start g p e = record { writing = rw e g; list-long = refl; area-long = refl; out-long = refl }
+pub between-start : {table list out : List ℕ} → Writing table atStart list 0 out → (p : Position) → p ≡ atStart → Between table list out list out p
+between-start g p e = record { writing = rw e g; list-long = refl; out-long = refl }
 
-module _ {table list₀ area₀ out₀ list area out : List ℕ} {p : Position} (b : Between table list₀ area₀ out₀ list area out p)
-    {list′ area′ out′ : List ℕ} (w : Progress) (x : Fills (trace table) p list list′ area area′ out out′ w) where
-  pub between-again : (n : ℕ) (q : Position) → w ≡ More n q → Between table list₀ area₀ out₀ list′ area′ out′ q
+module _ {table list₀ out₀ list out : List ℕ} {p : Position} (b : Between table list₀ out₀ list out p)
+    {list′ out′ : List ℕ} (w : Progress) (x : Fills (trace table) p list list′ out out′ w) where
+  pub between-again : (n : ℕ) (q : Position) → w ≡ More n q → Between table list₀ out₀ list′ out′ q
   between-again n q e = record {
     writing = more-again (b .writing) w x n q e;
     list-long = x .list-long ∙ b .list-long;
-    area-long = ap length (x .area-same) ∙ b .area-long;
     out-long = x .writes .puts .same ∙ b .out-long;
   }

@@ -29,12 +29,12 @@ fn put(out: &[u8], n: usize) -> bool
 }
 
 // The report of a good file, block by block.
-fn write_blocks(table: &[u16], list: &mut [u16], area: &mut [u8], out: &mut [u8])
-    requires { ⌜ Writing (now table) atStart (now list) (now area) 0 (now out) ⌝ }
+fn write_blocks(table: &[u16], list: &mut [u16], out: &mut [u8])
+    requires { ⌜ Writing (now table) atStart (now list) 0 (now out) ⌝ }
 {
     let mut position = Position::start();
     loop {
-        match report::block(table, position, list, area, out) {
+        match report::block(table, position, list, out) {
             Progress::Ended(n) => {
                 put(out, n);
                 return;
@@ -49,13 +49,12 @@ fn write_blocks(table: &[u16], list: &mut [u16], area: &mut [u8], out: &mut [u8]
     }
 }
 
-// The same with a new list and a new work area.
+// The same with a new list.
 fn write_lines(table: &[u16], out: &mut [u8])
     requires { ⌜ Starting (now table) atStart (now out) ⌝ }
 {
     let mut list = [0u16; Recording::MAX_EVENTS];
-    let mut area = [0u8; Recording::AREA_BYTES];
-    write_blocks(table, &mut list, &mut area, out);
+    write_blocks(table, &mut list, out);
 }
 
 // Judges a file and builds its table once, and writes its report.

@@ -101,9 +101,10 @@ module _ {t : Trace} {c : ℕ} {s : List ℕ} (p : Columns t c s) (two : 2 ≤ c
 
 -- ---- `fill`
 
-pub fill-end : {t : Trace} {s₂ s₃ s₄ s₅ s : List ℕ} → Columns (trace s₅) columns s → Columns (trace s₄) 5 s₅ → Columns (trace s₃) 4 s₄ → Columns (trace s₂) 3 s₃ → Columns t 2 s₂ → Filled t s
-fill-end p p₅ p₄ p₃ p₂ =
-    let e = columns-trace p₅ (omega arith) ∙ columns-trace p₄ (omega arith) ∙ columns-trace p₃ (omega arith) ∙ columns-trace p₂ (omega arith) in
+pub fill-end : {t : Trace} {s₂ s₃ s₄ s₅ s₆ s : List ℕ}
+    → Columns (trace s₆) columns s → Columns (trace s₅) 6 s₆ → Columns (trace s₄) 5 s₅ → Columns (trace s₃) 4 s₄ → Columns (trace s₂) 3 s₃ → Columns t 2 s₂ → Filled t s
+fill-end p p₆ p₅ p₄ p₃ p₂ =
+    let e = columns-trace p₆ (omega arith) ∙ columns-trace p₅ (omega arith) ∙ columns-trace p₄ (omega arith) ∙ columns-trace p₃ (omega arith) ∙ columns-trace p₂ (omega arith) in
     let q = columns-own p (omega arith) in
     record { long = p .long ∙ rw e; same = columns-trace p (omega arith) ∙ e; linked = record { good = q .good; is = q .is } }
 

@@ -14,9 +14,9 @@ use Rattle.model.specs.Good.{Good, maxThread, maxObject, depth, holder, WellFor
 use Rattle.model.specs.Sections.{isLast, isOutermost}
 use Rattle.model.proofs.Tests.{true-just, false-just, false-does, by-cases, not-on}
 use Rattle.table.specs.Entries.{Entries}
-use Rattle.table.specs.Links.{lastOf}
+use Rattle.table.specs.Links.{lastOf, lastTaken}
 use Rattle.table.proofs.EntryLaws.{entries-new, entries-same, entries-put}
-use Rattle.opening.specs.Knows.{LastEvents, Depths, NextEnds, lastOn, nextEnd}
+use Rattle.opening.specs.Knows.{LastEvents, Depths, NextEnds, lastOn, nextEnd, LastTaken}
 use lib.Dec.{eqb, ltb}
 use Rattle.model.specs.Cone.{givesBack, matching}
 use Rattle.model.proofs.Lists.{after, numbers-split, nearest-skip}
@@ -87,6 +87,9 @@ depths-new t = entries-new _ maxObject (λ x. refl)
 pub ends-new : (t : Trace) (n : ℕ) → n ≡ length t → NextEnds t n (replicate (maxObject + 1) 0)
 ends-new t n e = entries-new _ maxObject (end-none t n e)
 
+pub taken-new : (t : Trace) → LastTaken t 1 (replicate (maxObject + 1) 0)
+taken-new t = entries-new _ maxObject (λ x. refl)
+
 -- ---- after event k
 
 next-before : (k : ℕ) → 1 ≤ k → k ∷ before k ≡ before (k + 1)
@@ -121,3 +124,13 @@ module _ {t : Trace} {k : ℕ} (g : Good t) (v : Valid t k) where
 
     pub ends-same : isLast t k ≡ false → NextEnds t (k - 1) l
     ends-same e = entries-same p _ (λ x. end-step t k v x ∙ rw e)
+
+  module _ {l : List ℕ} (p : LastTaken t k l) where
+    pub taken-put : isOutermost t k ≡ true → LastTaken t (k + 1) (set l (objectOf t k) k)
+    taken-put e =
+        let x = objectOf t k in
+        known-next (lastTaken t)
+        (entries-put p (λ y. lastTaken t y (k ∷ before k)) x k (g .object-limit k v) (rw (e, eq-eqb x x refl)) (λ y ne. rw (e, ne-eqb x y (λ z. ne (sym z)))))
+
+    pub taken-same : isOutermost t k ≡ false → LastTaken t (k + 1) l
+    taken-same e = known-next (lastTaken t) (entries-same p (λ y. lastTaken t y (k ∷ before k)) (λ y. rw e))

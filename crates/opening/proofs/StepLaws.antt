@@ -17,13 +17,13 @@ use Rattle.model.specs.Good.{depth}
 use Rattle.model.specs.Sections.{ownDepth, isOutermost, isLast}
 use Rattle.model.proofs.Tests.{by-cases, true-does, false-does}
 use Rattle.model.proofs.Locks.{nobody, depth-before, locked-before}
-use Rattle.model.proofs.SectionsExact.{own-depth-lock}
+use Rattle.model.proofs.SectionsExact.{own-depth-lock, outermost-acquires, last-releases}
 use Rattle.model.proofs.MatchingExact.{matching-inner}
-use Rattle.table.specs.Links.{previous, observedBy, lockDepth, releaseOf}
+use Rattle.table.specs.Links.{previous, observedBy, lockDepth, releaseOf, began}
 use Rattle.table.specs.Table.{word, trace, withWord}
 use Rattle.opening.specs.Filling.{Columns, Turn, Stepped}
-use Rattle.opening.specs.Knows.{LastEvents, LastWrites, withWrite, Depths, NextEnds}
-use Rattle.opening.proofs.KnowsLaws.{events-step, depths-put, depths-same, ends-put, ends-same, matching-next}
+use Rattle.opening.specs.Knows.{LastEvents, LastWrites, withWrite, Depths, NextEnds, LastTaken, accessBegan}
+use Rattle.opening.proofs.KnowsLaws.{events-step, depths-put, depths-same, ends-put, ends-same, matching-next, taken-put, taken-same}
 use Rattle.opening.proofs.KnowsExact.{knows-kept}
 
 -- ---- `put_previous`
@@ -177,3 +177,56 @@ module _ {k : ℕ} {s list : List ℕ} (w : Turn NextEnds 5 k s list) (x : ℕ) 
     pub released-other : {s′ : List ℕ} → o ≡ false → s′ ≡ withWord s k 5 0 → Stepped NextEnds 5 k (k - 1) s s′ list
     unfolding releaseOf
     released-other n e = record { set = e ∙ rw (sym eb ∙ nl, matching-inner (trace s) k (sym eo ∙ n)); knows = knows-same }
+
+-- ---- `access_began`
+
+-- the columns before an earlier one are there
+columns-less : {t : Trace} {c d : ℕ} {s : List ℕ} → Columns t c s → d ≤ c → Columns t d s
+columns-less p l = record { good = p .good; long = p .long; is = λ i k h v. p .is i k (omega arith) v }
+
+module _ {k : ℕ} {s : List ℕ} (p : Columns (trace s) 6 s) (v : Valid (trace s) k) (q : ℕ) (eq : q ≡ kindOf (trace s) k) where
+  pub began-write : q ≡ write → k ≡ accessBegan (trace s) k
+  unfolding accessBegan
+  began-write e = let d : kindOf (trace s) k ≡ write = sym eq ∙ e in rw (eq-eqb _ _ d)
+
+  pub began-read : (q ≡ write → ⊥) → (o : ℕ) → o ≡ word s k 3 → o ≡ accessBegan (trace s) k
+  unfolding accessBegan
+  began-read nw o eo = eo ∙ p .is 3 k (omega arith) v ∙ rw (ne-eqb (kindOf (trace s) k) write (λ z. nw (eq ∙ z)))
+
+-- ---- `put_began`
+
+access-is : (s : Trace) (k : ℕ) → isOutermost s k ≡ false → isLast s k ≡ false → accessBegan s k ≡ began s k
+unfolding began accessBegan observedBy
+access-is s k ni nl =
+    by-cases (eqb (kindOf s k) write) (λ d. rw d) (λ d. by-cases (eqb (kindOf s k) read) (λ r. rw (d, r)) (λ r. rw (d, r, ni, nl)))
+
+module _ {k : ℕ} {s list : List ℕ} (w : Turn LastTaken 6 k s list) where
+  pub began-columns : Columns (trace s) 5 s
+  began-columns = columns-less (w .columns) (omega arith)
+
+  module _ (x : ℕ) (ex : x ≡ objectOf (trace s) k) (b : Bool) (eb : b ≡ isLast (trace s) k) {s′ : List ℕ} where
+    pub began-last : b ≡ true → s′ ≡ withWord s k 6 (getD list x 0) → Stepped LastTaken 6 k (k + 1) s s′ list
+    unfolding began isOutermost
+    began-last l e =
+        let g = w .columns .good in
+        let i = sym eb ∙ l in
+        let r = last-releases (trace s) k i in
+        let na = ne-eqb (kindOf (trace s) k) acquire (omega arith) in
+        record {
+          set = e ∙ rw (ne-eqb (kindOf (trace s) k) write (omega arith), ne-eqb (kindOf (trace s) k) read (omega arith), na, i, ex, w .knows .is (objectOf (trace s) k) (g .object-limit k (w .valid)));
+          knows = taken-same g (w .valid) (w .knows) (rw na);
+        }
+
+    module _ (nl : b ≡ false) (o : Bool) (eo : o ≡ isOutermost (trace s) k) where
+      pub began-outermost : o ≡ true → s′ ≡ withWord s k 6 k → Stepped LastTaken 6 k (k + 1) s s′ (set list x k)
+      unfolding began
+      began-outermost y e =
+          let i = sym eo ∙ y in
+          let a = outermost-acquires (trace s) k i in
+          record {
+            set = e ∙ rw (ne-eqb (kindOf (trace s) k) write (omega arith), ne-eqb (kindOf (trace s) k) read (omega arith), i);
+            knows = rw ex (taken-put (w .columns .good) (w .valid) (w .knows) i);
+          }
+
+      pub began-other : o ≡ false → (z : ℕ) → z ≡ accessBegan (trace s) k → s′ ≡ withWord s k 6 z → Stepped LastTaken 6 k (k + 1) s s′ list
+      began-other n z ez e = record { set = e ∙ rw (ez, access-is (trace s) k (sym eo ∙ n) (sym eb ∙ nl)); knows = taken-same (w .columns .good) (w .valid) (w .knows) (sym eo ∙ n) }

@@ -9,7 +9,7 @@ use Rattle.model.specs.Lists.{before, numbers, nearest}
 use Rattle.model.specs.Observed.{lastWrite}
 use Rattle.model.specs.Good.{maxThread, maxObject, depth}
 use Rattle.model.specs.Sections.{isLast}
-use Rattle.table.specs.Links.{lastOf}
+use Rattle.table.specs.Links.{lastOf, observedBy, lastTaken}
 use Rattle.table.specs.Entries.{Entries}
 
 -- before event k the list has every thread's last event so far; 0 where there is none
@@ -38,3 +38,11 @@ nextEnd t k x = nearest (λ j. ltb k j && lastOn t x j) (numbers t)
 
 abbrev pub NextEnds : Trace → ℕ → List ℕ → Type 0
 NextEnds t k list = Entries (nextEnd t k) maxObject list
+
+-- before event k the list has every lock's last outermost acquire so far; 0 where there is none
+abbrev pub LastTaken : Trace → ℕ → List ℕ → Type 0
+LastTaken t k list = Entries (λ x. lastTaken t x (before k)) maxObject list
+
+-- where the interval of an access begins: a write, or a read's observed write; 0 for every other event
+unfoldable pub accessBegan : Trace → ℕ → ℕ
+accessBegan t k = cond (eqb (kindOf t k) write) k (observedBy t k)

@@ -14,7 +14,7 @@ ghost use Rattle.format.specs.Bytes.{traceIn};
 ghost use Rattle.judging.specs.Judged.{eventsOf, refusalOf};
 ghost use Rattle.table.specs.Table.{trace, column, room};
 ghost use Rattle.opening.specs.Filling.{Columns, Turn, Stepped, Filled, Built};
-ghost use Rattle.opening.specs.Knows.{LastEvents, LastWrites, Depths, NextEnds};
+ghost use Rattle.opening.specs.Knows.{LastEvents, LastWrites, Depths, NextEnds, LastTaken, accessBegan};
 ghost use Rattle.opening.specs.Opening.{Opens};
 
 // A refused file, or how many words its table has.
@@ -190,6 +190,49 @@ fn add_released(table: &mut [u16])
     }
 }
 
+// Where the interval of an access begins: a write begins its own, a read is in that of its observed write. 0 for every other event.
+fn access_began(table: &[u16], k: usize) -> u16
+    requires { ⌜ Columns (trace (now table)) 6 (now table) × Valid (trace (now table)) k ⌝ }
+    ensures { λ r. ⌜ r ≡ accessBegan (trace (now (table .entry))) k ⌝ }
+{
+    if table::kind_at(table, k) == Event::WRITE {
+        return k as u16;
+    }
+    table::word(table, k, table::OBSERVED) as u16
+}
+
+// An outermost acquire begins a section, and is the last of its lock from then on; a last release is linked to the last one.
+fn put_began(table: &mut [u16], k: usize, taken: &mut [u16; Event::OBJECTS])
+    requires { ⌜ Turn LastTaken 6 k (now table) (now taken) ⌝ }
+    ensures { λ _. ⌜ Stepped LastTaken 6 k (k + 1) (now (table .entry)) (now (table .exit)) (now (taken .exit)) ⌝ }
+{
+    let lock = table::object_place(table, k);
+    if ends(table, k) {
+        table::set_word(table, k, table::BEGAN, taken[lock]);
+        return;
+    }
+    if begins(table, k) {
+        table::set_word(table, k, table::BEGAN, k as u16);
+        taken[lock] = k as u16;
+        return;
+    }
+    table::set_word(table, k, table::BEGAN, access_began(table, k));
+}
+
+// Where each event's interval begins.
+fn add_began(table: &mut [u16])
+    requires { ⌜ Columns (trace (now table)) 6 (now table) ⌝ }
+    ensures { λ _. ⌜ Columns (trace (now (table .entry))) 7 (now (table .exit)) ⌝ }
+{
+    let n = table::count(table);
+    let mut taken = [0u16; Event::OBJECTS];
+    let mut k = 1;
+    while k <= n {
+        put_began(table, k, &mut taken);
+        k += 1;
+    }
+}
+
 // All columns, from the first on.
 fn fill(ev: &[u8], table: &mut [u16])
     requires { ⌜ Columns (traceIn (now ev)) 0 (now table) ⌝ }
@@ -201,6 +244,7 @@ fn fill(ev: &[u8], table: &mut [u16])
     add_observed(table);
     add_depths(table);
     add_released(table);
+    add_began(table);
 }
 
 // The table of a good trace, in the front of the lent area. Gives its length.

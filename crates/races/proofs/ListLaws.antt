@@ -106,41 +106,39 @@ module _ (t : Trace) (w : WellFormed t) where
 -- ---- one pair
 
 module _ (t : Trace) (a b : ℕ) (c : Bool) (ec : c ≡ isConflicting t a b) where
-  pub no-pair : not c ≡ true → (list area : List ℕ) → Shows (witnessOf t a b) list list area area Absent
+  pub no-pair : not c ≡ true → (list : List ℕ) → Shows (witnessOf t a b) list list Absent
   unfolding witnessOf
-  no-pair w list area = rw (sym ec ∙ not-true c w) (record { says = refl; wrote = refl; same = refl })
+  no-pair w list = rw (sym ec ∙ not-true c w) (record { says = refl; wrote = refl })
 
   module _ (w : not c ≡ false) where
     pub pair-there : isConflicting t a b ≡ true
     pair-there = sym ec ∙ not-false c w
 
-    pub pair-shown : {list list′ area area′ : List ℕ} {r : Witnessed} → Shows (witness t a b) list list′ area area′ r → Shows (witnessOf t a b) list list′ area area′ r
+    pub pair-is : {list list′ : List ℕ} {r : Witnessed} → Shows (witness t a b) list list′ r → Shows (witnessOf t a b) list list′ r
     unfolding witnessOf
-    pair-shown s = rw (sym ec ∙ not-false c w) s
+    pair-is s = rw (sym ec ∙ not-false c w) s
 
--- what is lent is as it was
-pub record Same (list₀ area₀ list area : List ℕ) : Type 0 where
-  pub list-is : list ≡ list₀
-  pub list-long : length list ≡ length list₀
-  pub area-is : area ≡ area₀
-  pub area-long : length area ≡ length area₀
+-- the lent list is as it was
+pub record Same (list₀ list : List ℕ) : Type 0 where
+  pub is : list ≡ list₀
+  pub long : length list ≡ length list₀
 
-same : {list₀ area₀ list area : List ℕ} → list ≡ list₀ → area ≡ area₀ → Same list₀ area₀ list area
-same e f = record { list-is = e; list-long = ap length e; area-is = f; area-long = ap length f }
+same : {list₀ list : List ℕ} → list ≡ list₀ → Same list₀ list
+same e = record { is = e; long = ap length e }
 
 -- ---- the higher events, one after the other
 
 -- those above b and below y make no race with a
-pub record Trying (table : List ℕ) (a b : ℕ) (list₀ area₀ list area : List ℕ) (y : ℕ) : Type 0 where
-  pub given : WitnessRoom table list₀ area₀
-  pub same : Same list₀ area₀ list area
+pub record Trying (table : List ℕ) (a b : ℕ) (list₀ list : List ℕ) (y : ℕ) : Type 0 where
+  pub given : WitnessRoom table list₀
+  pub same : Same list₀ list
   pub above : b < y
   pub tried : NoRaces (trace table) a b y
 
-pub trying-start : (table : List ℕ) (a b : ℕ) {list area : List ℕ} → WitnessRoom table list area → Trying table a b list area list area (b + 1)
-trying-start table a b r = record { given = r; same = same refl refl; above = omega arith; tried = λ z p q. absurd (omega arith) }
+pub trying-start : (table : List ℕ) (a b : ℕ) {list : List ℕ} → WitnessRoom table list → Trying table a b list list (b + 1)
+trying-start table a b r = record { given = r; same = same refl; above = omega arith; tried = λ z p q. absurd (omega arith) }
 
-module _ {table : List ℕ} {a b : ℕ} {list₀ area₀ list area : List ℕ} {y : ℕ} (p : Trying table a b list₀ area₀ list area y) where
+module _ {table : List ℕ} {a b : ℕ} {list₀ list : List ℕ} {y : ℕ} (p : Trying table a b list₀ list y) where
   module _ (n : ℕ) (en : n ≡ length (trace table)) where
     pub higher-fits : y ≤ n → Fits w16 y
     higher-fits h = let s = p .given .links .good .size in record { fits = omega arith }
@@ -149,35 +147,35 @@ module _ {table : List ℕ} {a b : ℕ} {list₀ area₀ list area : List ℕ} {
     unfolding witnessOf
     beyond z h = rw (false-test (conflicting-exactly (trace table) a z .0) (λ c. let b = c .second .bounded in omega arith))
 
-    pub with-no-more : n < y → HandsWith (trace table) a b list₀ list area₀ area NoMore
+    pub with-no-more : n < y → HandsWith (trace table) a b list₀ list NoMore
     with-no-more h = record {
       race = none;
       first = with-none (λ x z l m. go z l (decLt z y));
-      hands = record { says = refl; wrote = p .same .list-is; same = p .same .area-is };
+      hands = record { says = refl; wrote = p .same .is };
     }
       where
         go : (z : ℕ) → b < z → Dec (z < y) → witnessOf (trace table) a z ≡ none
         go z l (yes q) = p .tried z l q
         go z l (no q) = beyond z (omega arith)
 
-  pub trying-lent : WitnessRoom table list area
-  trying-lent = rw (p .same .list-is, p .same .area-is) (p .given)
+  pub trying-lent : WitnessRoom table list
+  trying-lent = rw (p .same .is) (p .given)
 
-  module _ {list′ area′ : List ℕ} (x : Witnessed) (s : Shows (witnessOf (trace table) a y) list list′ area area′ x) where
-    pub with-found : (n : ℕ) → x ≡ Length n → HandsWith (trace table) a b list₀ list′ area₀ area′ (RaceOn a y n)
+  module _ {list′ : List ℕ} (x : Witnessed) (s : Shows (witnessOf (trace table) a y) list list′ x) where
+    pub with-found : (n : ℕ) → x ≡ Length n → HandsWith (trace table) a b list₀ list′ (RaceOn a y n)
     with-found n e =
         let w = witnessed-some (witnessOf (trace table) a y) n (sym e ∙ s .says) in record {
           race = some (record { lower = a; higher = y; witness = w .0 });
           first = with-race y (w .0) (p .above) (w .1) (p .tried);
-          hands = record { says = ap (λ (m : ℕ). RaceOn a y m) (w .2); wrote = rw (← p .same .list-is) (rw (w .1) at (s .wrote)); same = s .same ∙ p .same .area-is };
+          hands = record { says = ap (λ (m : ℕ). RaceOn a y m) (w .2); wrote = rw (← p .same .is) (rw (w .1) at (s .wrote)) };
         }
 
-    pub trying-on : x ≡ Absent → Trying table a b list₀ area₀ list′ area′ (y + 1)
+    pub trying-on : x ≡ Absent → Trying table a b list₀ list′ (y + 1)
     trying-on e =
         let w = witnessed-none (witnessOf (trace table) a y) (sym e ∙ s .says) in
         let l : list′ ≡ list = rw w at (s .wrote) in record {
           given = p .given;
-          same = same (l ∙ p .same .list-is) (s .same ∙ p .same .area-is);
+          same = same (l ∙ p .same .is);
           above = let h = p .above in omega arith;
           tried = λ z l m. go z l w (decLt z y) m;
         }
@@ -189,19 +187,19 @@ module _ {table : List ℕ} {a b : ℕ} {list₀ area₀ list area : List ℕ} {
 -- ---- the lower events, one after the other
 
 -- the races after (a, b) are those after (x, y)
-pub record Walking (table : List ℕ) (a b : ℕ) (list₀ area₀ list area : List ℕ) (x y : ℕ) : Type 0 where
-  pub given : WitnessRoom table list₀ area₀
-  pub same : Same list₀ area₀ list area
+pub record Walking (table : List ℕ) (a b : ℕ) (list₀ list : List ℕ) (x y : ℕ) : Type 0 where
+  pub given : WitnessRoom table list₀
+  pub same : Same list₀ list
   pub after : nextRace (trace table) a b ≡ nextRace (trace table) x y
 
-pub walking-start : (table : List ℕ) (a b : ℕ) {list area : List ℕ} → WitnessRoom table list area → Walking table a b list area list area a b
-walking-start table a b r = record { given = r; same = same refl refl; after = refl }
+pub walking-start : (table : List ℕ) (a b : ℕ) {list : List ℕ} → WitnessRoom table list → Walking table a b list list a b
+walking-start table a b r = record { given = r; same = same refl; after = refl }
 
 none-with : (t : Trace) (a b : ℕ) (o : Option Race) → o ≡ none → FirstWith t a b o → (y : ℕ) → NoRaces t a b y
 none-with t a b o e (with-none f) = f
 none-with t a b o e (with-race y ρ l w f) = let z : _≡_ {A = ℕ} 0 1 = cc in absurd (omega arith)
 
-module _ {table : List ℕ} {a b : ℕ} {list₀ area₀ list area : List ℕ} {x y : ℕ} (p : Walking table a b list₀ area₀ list area x y) where
+module _ {table : List ℕ} {a b : ℕ} {list₀ list : List ℕ} {x y : ℕ} (p : Walking table a b list₀ list x y) where
   module _ (n : ℕ) (en : n ≡ length (trace table)) where
     pub lower-fits : x ≤ n → Fits w16 x
     lower-fits h = let s = p .given .links .good .size in record { fits = omega arith }
@@ -209,28 +207,28 @@ module _ {table : List ℕ} {a b : ℕ} {list₀ area₀ list area : List ℕ} {
     pub next-fits : x ≤ n → Fits w16 (x + 1)
     next-fits h = let s = p .given .links .good .size in record { fits = omega arith }
 
-    pub no-more : n < x → Hands (nextRace (trace table) a b) list₀ list area₀ area NoMore
+    pub no-more : n < x → Hands (nextRace (trace table) a b) list₀ list NoMore
     no-more h =
         let l : length (trace table) < x = omega arith in
         let e = p .after ∙ next-over (trace table) (p .given .links .good .well-formed) x y l in
-        rw e (record { says = refl; wrote = p .same .list-is; same = p .same .area-is })
+        rw e (record { says = refl; wrote = p .same .is })
 
-  pub walking-lent : WitnessRoom table list area
-  walking-lent = rw (p .same .list-is, p .same .area-is) (p .given)
+  pub walking-lent : WitnessRoom table list
+  walking-lent = rw (p .same .is) (p .given)
 
-  module _ {list′ area′ : List ℕ} (r : Handed) (s : HandsWith (trace table) x y list list′ area area′ r) where
-    pub race-found : (k j n : ℕ) → r ≡ RaceOn k j n → Hands (nextRace (trace table) a b) list₀ list′ area₀ area′ (RaceOn k j n)
+  module _ {list′ : List ℕ} (r : Handed) (s : HandsWith (trace table) x y list list′ r) where
+    pub race-found : (k j n : ℕ) → r ≡ RaceOn k j n → Hands (nextRace (trace table) a b) list₀ list′ (RaceOn k j n)
     race-found k j n e =
         let z = handed-some (s .race) k j n (sym e ∙ s .hands .says) in
         let f : FirstWith (trace table) x y (some (z .0)) = rw (z .1) at (s .first) in
         let g = p .after ∙ next-found (trace table) (p .given .links .good .well-formed) x y (z .0) f ∙ sym (z .1) in
-        rw g (record { says = sym e ∙ s .hands .says; wrote = rw (← p .same .list-is) (s .hands .wrote); same = s .hands .same ∙ p .same .area-is })
+        rw g (record { says = sym e ∙ s .hands .says; wrote = rw (← p .same .is) (s .hands .wrote) })
 
-    pub walking-on : r ≡ NoMore → Walking table a b list₀ area₀ list′ area′ (x + 1) (x + 1)
+    pub walking-on : r ≡ NoMore → Walking table a b list₀ list′ (x + 1) (x + 1)
     walking-on e =
         let z = handed-none (s .race) (sym e ∙ s .hands .says) in
         let l : list′ ≡ list = rw z at (s .hands .wrote) in record {
           given = p .given;
-          same = same (l ∙ p .same .list-is) (s .hands .same ∙ p .same .area-is);
+          same = same (l ∙ p .same .is);
           after = rw (add-one x) (p .after ∙ next-lower (trace table) (p .given .links .good .well-formed) x y (none-with (trace table) x y (s .race) z (s .first)));
         }

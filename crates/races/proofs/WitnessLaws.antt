@@ -1,181 +1,241 @@
--- The ways through the search for a pair's witness.
-use Prim.Native.Nat.{ℕ, _+_, _*_, _≤_, _<_}
+-- The ways to a pair's witness.
+use Prim.Native.Nat.{ℕ, suc, _+_, _-_, _≤_, _<_}
 use native.Mathlib.Omega.{arith}
-use native.Mathlib.Nat.{mul-le-mul-right, mul-le-mul-left, le-trans}
+use native.Mathlib.Numerals.{add-one}
 use mathlib.Core.Path.{_≡_, refl, sym, _∙_, ap}
-use mathlib.Core.Bool.{Bool, true, false}
-use mathlib.Core.List.{List, [], _∷_}
-use lib.ListN.{length, getD, take, length-reverse}
-use lib.Seq.{length-take-le}
+use mathlib.Core.Logic.{_⊎_, inl, inr, ⊎-elim}
+use mathlib.Core.Bool.{Bool, true, false, not}
+use mathlib.Core.List.{List, [], _∷_, _++_}
+use lib.ListN.{length, getD, set, take, drop, length-set, take-append-drop}
+use lib.Seq.{length-take-le, take-suc-set, drop-set-lt, take-all, take-suc, drop-drop}
+use borrow.Author.Tests.{not-true, not-false}
 use Rattle.model.specs.Trace.{Trace, Valid, threadOf}
-use Rattle.model.specs.Lists.{upTo, keep, only, just, allBut, listed, anyIn, pair}
-use Rattle.model.specs.Good.{maxEvents}
+use Rattle.model.specs.Lists.{_∈_, inFront, own, only, just, allBut, pair}
+use Rattle.model.specs.Observed.{observed}
+use Rattle.model.specs.Good.{maxEvents, maxThread}
+use Rattle.model.specs.Cone.{InCone, brought, earlier, observes}
+use Rattle.model.specs.Race.{Apart}
+use Rattle.model.proofs.Tests.{by-cases, just-true, just-false, true-allBut, allBut-true}
+use Rattle.model.proofs.Lists.{mem-only, only-mem, increasing-keep, front-taken}
+use Rattle.model.proofs.Threads.{conflicting-apart}
+use Rattle.model.proofs.ConeEvents.{cone-valid}
 use Rattle.decision.specs.Rounds.{cone}
-use Rattle.decision.specs.Grid.{side, path}
+use Rattle.decision.specs.Check.{isCorrect}
+use Rattle.decision.specs.Stairs.{climb, leastMerge}
 use Rattle.decision.specs.Decision.{witness, isConflicting, shownFor}
-use Rattle.model.proofs.Tests.{by-cases}
-use Rattle.model.proofs.Lists.{mem-keep, mem-only, mem-upTo, mem-reverse, sets-front}
-use Rattle.decision.proofs.LeastSet.{length-keep}
-use Rattle.decision.proofs.Merges.{getD-mem}
-use Rattle.model.proofs.Threads.{mem-pair, in-pair-a, in-pair-b, conflicting-apart}
+use Rattle.decision.proofs.ConeExact.{cone-exactly, cone-increasing}
 use Rattle.decision.proofs.ListingExact.{conflicting-exactly}
-use Rattle.limits.specs.Limits.{areaBytes}
-use Rattle.cone.specs.Sides.{flagged, flaggedOf, Picked}
-use Rattle.cone.specs.Flags.{Roots, Rooted, ConeFlags}
-use Rattle.cone.proofs.SplitLaws.{flagged-cone, root-in, roots-out}
-use Rattle.steps.specs.Steps.{AllValid}
-use Rattle.merge.specs.Places.{Mergeable, Found}
-use Rattle.merge.proofs.FoundLaws.{path-length, found-some, found-none}
 use Rattle.table.specs.Table.{trace}
-use Rattle.races.specs.Witness.{WitnessRoom, pathOf, searchOf, Shows}
+use Rattle.cone.specs.Tops.{Rooted, Told}
+use Rattle.cone.specs.Split.{Splits, Moved, Others}
+use Rattle.cone.proofs.ConeLaws.{under-cone, moved-cone, others-cone, told-tops, roots-out, root-in, both-few, rest-whole}
+use Rattle.stairs.specs.Stairs.{at, Ready, Solved}
+use Rattle.stairs.specs.Passes.{Climbing}
+use Rattle.stairs.proofs.ClimbLaws.{climb-length}
+use Rattle.bounds.specs.Parts.{Parts}
+use Rattle.bounds.specs.Bounds.{Given, Ended, Needed, Bound, Covers}
+use Rattle.bounds.proofs.StairLaws.{parts-lists, merge-is}
+use Rattle.races.specs.Witness.{WitnessRoom, Shows}
+use Rattle.races.specs.Engine.{ifCorrect, shownOf, Coned, Joinable, Mergeable}
 use Rattle.races.specs.declared.Witnessed.{Witnessed}
 use Rattle.races.specs.declared.Witnessed.the-variants.{Absent, Length}
 
--- ---- the flagged events of both sides are different events of the trace
+-- ---- `merge`
 
-module _ (t : Trace) (m : ℕ) where
-  sides-few : (l : List ℕ) → length (only t (side m true) l) + length (only t (side m false) l) ≡ length l
-  unfolding allBut
-  sides-few [] = refl
-  sides-few (k ∷ l) =
-      let h = sides-few l in
-      by-cases (just m (threadOf t k)) (λ e. rw e (omega arith)) (λ e. rw e (omega arith))
+module _ {s : List ℕ} {m : ℕ} {tops P Q out : List ℕ} (g : Mergeable s m tops P Q out) where
+  pub merge-given : (by : List ℕ) → length by ≡ maxEvents + 1 → Given s m P Q by
+  merge-given by l = let z = g .joinable .links .good .size in record { links = g .joinable .links; parts = g .joinable .parts; room = omega arith }
 
-  module _ (flags : List ℕ) where
-    pub flagged-few : length (flaggedOf t m true flags (length t)) + length (flaggedOf t m false flags (length t)) ≤ length t
-    flagged-few =
-        let l = keep (flagged flags) (upTo (length t)) in
-        let s = sides-few l in
-        let k = length-keep (flagged flags) (length t) in
-        let p = length-reverse (only t (side m true) l) in
-        let q = length-reverse (only t (side m false) l) in
-        omega arith
+  pub merge-climbing : (need : List ℕ) → length need ≡ maxEvents + 1 → Climbing P Q need out
+  merge-climbing need l =
+      let z = g .joinable .links .good .size in
+      let f = g .joinable .few in
+      let o = g .room in
+      record { stairs = λ k i. let b = g .joinable .parts .others k i .bounded in omega arith; room = omega arith }
 
-    flagged-valid : (w : Bool) → AllValid t (flaggedOf t m w flags (length t))
-    flagged-valid w = record {
-      each = λ i h.
-          let l = keep (flagged flags) (upTo (length t)) in
-          let k = getD (flaggedOf t m w flags (length t)) i 0 in
-          let x = mem-only t (side m w) k l (mem-reverse k (only t (side m w) l) (getD-mem (flaggedOf t m w flags (length t)) i h)) .0 in
-          let y = mem-upTo (length t) k (mem-keep (flagged flags) k (upTo (length t)) x .0) in
-          record { positive = y .0; bounded = y .1 };
-    }
+module _ {s : List ℕ} {m : ℕ} {P Q ends low : List ℕ} (e : Ended s m P Q ends) (n : Needed s m P Q (Bound (trace s) P Q) low) where
+  pub merge-ready : Ready s m P Q ends low
+  merge-ready = record { links = e .given .links; lists = parts-lists s (e .given .links) (e .given .parts); ends-room = e .given .room; need-room = n .given .room }
 
--- ---- the search
+  module _ {need : List ℕ} (x : Solved (trace s) m P Q ends low need) where
+    merged : climb (at need) P Q ≡ leastMerge (trace s) P Q
+    merged = merge-is s (e .given .links) (e .given .parts) (e .are) (n .are) (x .least)
 
--- every place of the grid has its bit
-states-fit : (p q n : ℕ) → p ≤ maxEvents → q ≤ maxEvents → areaBytes ≤ n → p * (q + 1) + q < 8 * n
-states-fit p q n hp hq h =
-    let r : q + 1 ≤ maxEvents + 1 = omega arith in
-    let s : p * (q + 1) ≤ maxEvents * (maxEvents + 1) = le-trans (mul-le-mul-right (q + 1) hp) (mul-le-mul-left maxEvents r) in
-    omega arith
+    pub merge-done : (out : List ℕ) {out′ : List ℕ} → out′ ≡ inFront (climb (at need) P Q) out → out′ ≡ inFront (leastMerge (trace s) P Q) out
+    merge-done out q = q ∙ ap (λ (l : List ℕ). inFront l out) merged
 
-module _ {table p q area list : List ℕ} (g : Mergeable table p q area list) where
-  module _ (m : ℕ) {area′ list′ : List ℕ} (r : Bool) (f : Found (path (trace table) m p q (length p + length q) 0 0) area area′ list list′ r) where
-    pub path-found : r ≡ true → Shows (pathOf (trace table) m p q) list list′ area area′ (Length (length p + length q))
-    unfolding pathOf
-    path-found w =
-        let x = found-some f w in
-        let n = path-length (trace table) m p q (length p + length q) 0 0 (x .1) in
-        let l = g .room in
-        let b : length (x .0) ≤ length list = omega arith in
-        rw (x .1) (record { says = ap Length (sym n); wrote = x .2 ∙ sets-front (x .0) list b; same = f .same })
+-- ---- `copy`
 
-    pub path-absent : r ≡ false → Shows (pathOf (trace table) m p q) list list′ area area′ Absent
-    unfolding pathOf
-    path-absent w = let x = found-none f w in rw (x .0) (record { says = refl; wrote = x .1; same = f .same })
+pub record Copying (from list₀ : List ℕ) (i : ℕ) (list : List ℕ) : Type 0 where
+  pub long : length list ≡ length list₀
+  pub room : length from ≤ length list₀
+  pub few : i ≤ length from
+  pub front : take i list ≡ take i from
+  pub rest : drop i list ≡ drop i list₀
 
-module _ {table list area : List ℕ} (s : WitnessRoom table list area) {flags : List ℕ} where
-  module _ {m : ℕ} where
-    picked-low : {w : Bool} {r : ℕ} {out : List ℕ} → Picked (trace table) m w flags r out → length out ≡ maxEvents → r ≤ length out
-    picked-low x l = let f = s .links .good .size in let h = x .few in omega arith
+pub copy-start : {from list : List ℕ} → length from ≤ length list → Copying from list 0 list
+copy-start h = record { long = refl; room = h; few = omega arith; front = refl; rest = refl }
 
-    picked-length : {w : Bool} {r : ℕ} {out : List ℕ} → Picked (trace table) m w flags r out → length out ≡ maxEvents → length (take r out) ≡ r
-    picked-length {r = r} {out = out} x l = length-take-le r out (picked-low x l)
+module _ {from list₀ : List ℕ} {i : ℕ} {list : List ℕ} (p : Copying from list₀ i list) where
+  module _ (h : i < length from) where
+    pub copy-room : i < length list
+    copy-room = let l = p .long in let r = p .room in omega arith
 
-    pub picked-front : {w : Bool} {r : ℕ} {out : List ℕ} → Picked (trace table) m w flags r out → length out ≡ maxEvents → r ≡ length (take r out)
-    picked-front x l = sym (picked-length x l)
+    pub copy-more : Copying from list₀ (i + 1) (set list i (getD from i 0))
+    copy-more =
+        let l = length-set list i (getD from i 0) in
+        let e : drop (suc i) list ≡ drop (suc i) list₀ = drop-more i list list₀ (p .rest) in
+        rw (add-one i) (record {
+          long = l ∙ p .long;
+          room = p .room;
+          few = omega arith;
+          front = take-suc-set list i (getD from i 0) copy-room ∙ ap (λ (x : List ℕ). x ++ (getD from i 0 ∷ [])) (p .front) ∙ sym (take-suc from i 0 h);
+          rest = drop-set-lt (suc i) list i (getD from i 0) (omega arith) ∙ e;
+        })
+      where
+        drop-more : (n : ℕ) (a b : List ℕ) → drop n a ≡ drop n b → drop (suc n) a ≡ drop (suc n) b
+        drop-more n a b q = rw (← add-one n) (sym (drop-drop 1 n a) ∙ ap (drop 1) q ∙ drop-drop 1 n b)
 
-    module _ {p q : ℕ} {moved others : List ℕ} (x : Picked (trace table) m true flags p moved) (y : Picked (trace table) m false flags q others) (lx : length moved ≡ maxEvents) (ly : length others ≡ maxEvents) where
-      both-few : p + q ≤ length (trace table)
-      both-few =
-          let f = flagged-few (trace table) m flags in
-          let a : length (take p moved) ≡ length (flaggedOf (trace table) m true flags (length (trace table))) = ap length (x .is) in
-          let b : length (take q others) ≡ length (flaggedOf (trace table) m false flags (length (trace table))) = ap length (y .is) in
-          let c = picked-length x lx in
-          let d = picked-length y ly in
-          omega arith
+  pub copy-end : length from ≤ i → list ≡ inFront from list₀
+  unfolding inFront
+  copy-end h =
+      let f = p .few in
+      let e : i ≡ length from = omega arith in
+      sym (take-append-drop i list) ∙ rw (p .front, p .rest, e, take-all (length from) from (omega arith)) refl
 
-      pub find-given : Mergeable table (take p moved) (take q others) area list
-      find-given =
-          let c = picked-length x lx in
-          let d = picked-length y ly in
-          let f = s .links .good .size in
-          let g = x .few in
-          let h = y .few in
-          let b = both-few in
-          let r = s .room in
-          let pf : length (take p moved) ≤ maxEvents = omega arith in
-          let qf : length (take q others) ≤ maxEvents = omega arith in
-          record {
-            links = s .links;
-            p-valid = rw (x .is) (flagged-valid (trace table) m flags true);
-            q-valid = rw (y .is) (flagged-valid (trace table) m flags false);
-            p-few = pf;
-            q-few = qf;
-            states = states-fit (length (take p moved)) (length (take q others)) (length area) pf qf (s .long);
-            room = omega arith;
-          }
+-- ---- `show`
 
-      pub lists-searched : {list′ area′ : List ℕ} {r : Witnessed} → Shows (pathOf (trace table) m (take p moved) (take q others)) list list′ area area′ r → Shows (searchOf (trace table) m flags) list list′ area area′ r
-      unfolding searchOf
-      lists-searched h = rw (x .is, y .is) at h
+module _ {s list : List ℕ} (merged : List ℕ) (q : WitnessRoom s list) (f : length merged ≤ length (trace s)) (b : Bool) (eb : b ≡ isCorrect (trace s) merged) where
+  pub show-none : not b ≡ true → Shows (ifCorrect (trace s) merged) list list Absent
+  unfolding ifCorrect
+  show-none w = rw (sym eb ∙ not-true b w) (record { says = refl; wrote = refl })
+
+  pub show-some : not b ≡ false → {list′ : List ℕ} → list′ ≡ inFront merged list → Shows (ifCorrect (trace s) merged) list list′ (Length (length merged))
+  unfolding ifCorrect
+  show-some w e = rw (sym eb ∙ not-false b w) (record { says = refl; wrote = e })
+
+-- ---- `join`
+
+module _ {s : List ℕ} {m : ℕ} {tops P Q : List ℕ} (g : Joinable s m tops P Q) (out : List ℕ) where
+  pub join-mergeable : length out ≡ maxEvents → Mergeable s m tops P Q out
+  join-mergeable l = let z = g .links .good .size in record { joinable = g; room = omega arith }
+
+  merge-length : length (leastMerge (trace s) P Q) ≡ length P + length Q
+  unfolding leastMerge
+  merge-length = climb-length _ P Q
+
+  module _ {out′ : List ℕ} (e : out′ ≡ inFront (leastMerge (trace s) P Q) out) where
+    front-is : take (length P + length Q) out′ ≡ leastMerge (trace s) P Q
+    front-is = rw (e, ← merge-length) (front-taken (leastMerge (trace s) P Q) out)
+
+    pub join-front : length P + length Q ≡ length (take (length P + length Q) out′)
+    join-front = sym (ap length front-is ∙ merge-length)
+
+    pub join-few : length (take (length P + length Q) out′) ≤ length (trace s)
+    join-few = let a = join-front in let f = g .few in omega arith
+
+    pub join-shown : {list list′ : List ℕ} {r : Witnessed} → Shows (ifCorrect (trace s) (take (length P + length Q) out′)) list list′ r → Shows (ifCorrect (trace s) (leastMerge (trace s) P Q)) list list′ r
+    join-shown x = rw front-is at x
+
+-- ---- `split`
+
+module _ (t : Trace) {tops : List ℕ} (c : Coned t tops) where
+  abbrev R : List ℕ
+  R = c .roots
+
+  valid : (r : ℕ) → r ∈ R → Valid t r
+  valid = c .apart .valid
+
+  abbrev P : ℕ → List ℕ
+  P m = own t m (cone t R)
+
+  abbrev Q : ℕ → List ℕ
+  Q m = only t (allBut m) (cone t R)
+
+  in-cone : (k : ℕ) → k ∈ cone t R → InCone t R k
+  in-cone k n = cone-exactly t R valid k .0 n
+
+  cone-in : {k : ℕ} → InCone t R k → k ∈ cone t R
+  cone-in {k} x = cone-exactly t R valid k .1 x
+
+  side : (m k : ℕ) → InCone t R k → (k ∈ P m) ⊎ (k ∈ Q m)
+  side m k x =
+      by-cases (just m (threadOf t k)) (λ e. inl (only-mem t (just m) (cone-in x) e)) (λ e. inr (only-mem t (allBut m) (cone-in x) (true-allBut m (threadOf t k) (just-false m (threadOf t k) e))))
+
+  pub cone-parts : (m : ℕ) → Parts t m (P m) (Q m)
+  cone-parts m = record {
+    moved = λ k n. cone-valid t R valid (of-P k n);
+    moved-thread = λ k n. just-true m (threadOf t k) (mem-only t (just m) k (cone t R) n .1);
+    moved-up = increasing-keep (λ k. just m (threadOf t k)) (cone t R) (cone-increasing t R);
+    moved-earlier = λ j k n e.
+        let y = mem-only t (just m) k (cone t R) n in
+        only-mem t (just m) (cone-in (brought (of-P k n) (earlier e))) (rw (e .thread) (y .1));
+    others = λ k n. cone-valid t R valid (of-Q k n);
+    others-thread = λ k n. allBut-true m (threadOf t k) (mem-only t (allBut m) k (cone t R) n .1);
+    others-up = increasing-keep (λ k. allBut m (threadOf t k)) (cone t R) (cone-increasing t R);
+    others-earlier = λ j k n e.
+        let y = mem-only t (allBut m) k (cone t R) n in
+        only-mem t (allBut m) (cone-in (brought (of-Q k n) (earlier e))) (rw (e .thread) (y .1));
+    seen = λ k n r o. side m (observed t k) (brought (⊎-elim (of-P k) (of-Q k) n) (observes r refl o));
+  }
+    where
+      of-P : (k : ℕ) → k ∈ own t m (cone t (c .roots)) → InCone t (c .roots) k
+      of-P k n = in-cone k (mem-only t (just m) k (cone t (c .roots)) n .0)
+
+      of-Q : (k : ℕ) → k ∈ only t (allBut m) (cone t (c .roots)) → InCone t (c .roots) k
+      of-Q k n = in-cone k (mem-only t (allBut m) k (cone t (c .roots)) n .0)
+
+  cone-covers : (m : ℕ) → Covers t m (Q m) tops
+  cone-covers m = record {
+    is = λ k v ne. (
+      (λ n. c .are .is k v .1 (in-cone k (mem-only t (allBut m) k (cone t R) n .0))),
+      (λ l. only-mem t (allBut m) (cone-in (c .are .is k v .0 l)) (true-allBut m (threadOf t k) ne)),
+    );
+  }
+
+module _ {s list : List ℕ} (q : WitnessRoom s list) {tops : List ℕ} (c : Coned (trace s) tops) {m : ℕ} (b : m ≤ maxThread) where
+  pub split-room : (out : List ℕ) → length out ≡ maxEvents → Splits s tops m out
+  split-room out l = let z = q .links .good .size in record { links = q .links; topped = c .are .topped; thread = b; room = omega arith }
+
+  module _ {i n : ℕ} {moved others : List ℕ} (x : Moved (trace s) m tops i moved) (y : Others (trace s) m tops n others) where
+    pub split-others : length others ≡ maxEvents → n ≡ length (take n others)
+    split-others l = let z = q .links .good .size in let u = y .few in sym (length-take-le n others (omega arith))
+
+    pub split-joinable : length moved ≡ maxEvents → Joinable s m tops (take (maxEvents - i) (drop i moved)) (take n others)
+    split-joinable l =
+        let a = moved-cone (c .apart) (c .are) x in
+        let o = others-cone (c .apart) (c .are) y in
+        rw (rest-whole moved maxEvents i l) (record { links = q .links; parts = rw (a, o) (cone-parts (trace s) c m); covers = rw o (cone-covers (trace s) c m); few = both-few x y })
+
+    pub split-shown : length moved ≡ maxEvents → {list′ : List ℕ} {r : Witnessed} → Shows (ifCorrect (trace s) (leastMerge (trace s) (take (maxEvents - i) (drop i moved)) (take n others))) list list′ r → Shows (shownOf (trace s) m tops) list list′ r
+    unfolding shownOf
+    split-shown l z = rw (rest-whole moved maxEvents i l, x .is, y .is) at z
 
 -- ---- the pair
 
-pub flags-room : {table list area : List ℕ} → WitnessRoom table list area → (flags : List ℕ) → length flags ≡ maxEvents + 1 → length (trace table) < length flags
-flags-room q flags l = let s = q .links .good .size in omega arith
+module _ {table list : List ℕ} (q : WitnessRoom table list) (a b : ℕ) (conflicting : isConflicting (trace table) a b ≡ true) where
+  apart : Apart (trace table) (pair a b)
+  apart = conflicting-apart (trace table) a b (conflicting-exactly (trace table) a b .0 conflicting)
 
-module _ {table list area : List ℕ} (q : WitnessRoom table list area) (a b : ℕ) (conflicting : isConflicting (trace table) a b ≡ true) where
   pub valid-a : Valid (trace table) a
   valid-a = conflicting-exactly (trace table) a b .0 conflicting .first
 
-  valid-b : Valid (trace table) b
-  valid-b = conflicting-exactly (trace table) a b .0 conflicting .second
-
-  roots : Roots (trace table) (pair a b)
-  roots = record { valid = conflicting-apart (trace table) a b (conflicting-exactly (trace table) a b .0 conflicting) .valid }
-
   pub rooted : Rooted table (pair a b)
-  rooted = record { links = q .links; roots = roots }
+  rooted = record { links = q .links; apart = apart }
 
-  pub lower-in : a < maxEvents + 1
-  lower-in = let s = q .links .good .size in let v = valid-a .bounded in omega arith
-
-  pub higher-in : b < maxEvents + 1
-  higher-in = let s = q .links .good .size in let v = valid-b .bounded in omega arith
-
-  module _ {flags : List ℕ} (f : ConeFlags (trace table) (pair a b) flags) where
-    no-witness : anyIn (λ r. listed r (cone (trace table) (pair a b))) (pair a b) ≡ true → Shows (witness (trace table) a b) list list area area Absent
+  module _ {tops : List ℕ} (x : Bool) (c : Told (trace table) (pair a b) tops x) where
+    pub root-found : not x ≡ true → Shows (witness (trace table) a b) list list Absent
     unfolding shownFor
-    no-witness e = rw e (record { says = refl; wrote = refl; same = refl })
+    root-found w = rw (root-in apart c (not-true x w)) (record { says = refl; wrote = refl })
 
-    pub lower-in-cone : getD flags a 0 ≡ 1 → Shows (witness (trace table) a b) list list area area Absent
-    lower-in-cone h = no-witness (root-in f roots a (in-pair-a a b) h)
+    module _ (w : not x ≡ false) where
+      pub pair-coned : Coned (trace table) tops
+      pair-coned = record { roots = pair a b; apart = apart; are = told-tops c (not-false x w) }
 
-    pub higher-in-cone : getD flags b 0 ≡ 1 → Shows (witness (trace table) a b) list list area area Absent
-    higher-in-cone h = no-witness (root-in f roots b (in-pair-b a b) h)
+      module _ (m : ℕ) (em : m ≡ threadOf (trace table) a) where
+        pub pair-thread : m ≤ maxThread
+        pair-thread = rw em (q .links .good .thread-limit a valid-a)
 
-    module _ (na : getD flags a 0 ≡ 1 → ⊥) (nb : getD flags b 0 ≡ 1 → ⊥) (m : ℕ) (em : m ≡ threadOf (trace table) a) where
-      search-is : searchOf (trace table) m flags ≡ witness (trace table) a b
-      unfolding searchOf pathOf shownFor
-      search-is =
-          rw (
-            roots-out f roots (λ r i h. mem-pair i (λ e. na (rw e at h)) (λ e. nb (rw e at h))),
-            flagged-cone f roots m true,
-            flagged-cone f roots m false,
-            em,
-          )
-
-      pub pair-searched : {list′ area′ : List ℕ} {r : Witnessed} → Shows (searchOf (trace table) m flags) list list′ area area′ r → Shows (witness (trace table) a b) list list′ area area′ r
-      pair-searched s = rw search-is at s
+        pub pair-shown : {list′ : List ℕ} {r : Witnessed} → Shows (shownOf (trace table) m tops) list list′ r → Shows (witness (trace table) a b) list list′ r
+        unfolding shownOf ifCorrect shownFor
+        pair-shown s = rw (roots-out apart c (not-false x w), ← em, ← under-cone apart (told-tops c (not-false x w))) s

@@ -22,11 +22,10 @@ abbrev pub witnessIn : Option Race → Option (List ℕ)
 witnessIn none = none
 witnessIn (some x) = some (x .witness)
 
--- the race, with its witness in the front of the lent list; the work area is as it was
-pub record Hands (o : Option Race) (list list′ area area′ : List ℕ) (r : Handed) : Type 0 where
+-- the race, with its witness in the front of the lent list
+pub record Hands (o : Option Race) (list list′ : List ℕ) (r : Handed) : Type 0 where
   pub says : r ≡ handedOut o
   pub wrote : list′ ≡ listWith (witnessIn o) list
-  pub same : area′ ≡ area
 
 -- ---- one lower event at a time
 
@@ -44,7 +43,7 @@ pub data FirstWith (t : Trace) (a b : ℕ) : Option Race → Type 0 where
   with-race : (y : ℕ) (ρ : List ℕ) → b < y → witnessOf t a y ≡ some ρ → NoRaces t a b y → FirstWith t a b (some (record { lower = a; higher = y; witness = ρ }))
 
 -- that race, handed out
-pub record HandsWith (t : Trace) (a b : ℕ) (list list′ area area′ : List ℕ) (r : Handed) : Type 0 where
+pub record HandsWith (t : Trace) (a b : ℕ) (list list′ : List ℕ) (r : Handed) : Type 0 where
   pub race : Option Race
   pub first : FirstWith t a b race
-  pub hands : Hands race list list′ area area′ r
+  pub hands : Hands race list list′ r

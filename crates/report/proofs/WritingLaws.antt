@@ -6,13 +6,11 @@ use mathlib.Core.Path.{_≡_, refl, sym, _∙_, ap}
 use mathlib.Core.Logic.{_≢_}
 use mathlib.Core.Option.{Option, some}
 use mathlib.Core.List.{List, [], _++_, append-assoc}
-use lib.ListN.{length, take, drop, replicate, length-append, length-drop, length-replicate}
+use lib.ListN.{length, take, drop, length-append, length-drop}
 use mir.Val.{Fits}
 use mir.Syntax.{w32}
 use Rattle.model.specs.Trace.{Trace}
 use Rattle.model.specs.Good.{maxEvents}
-use Rattle.limits.specs.Limits.{areaBytes}
-use Rattle.bits.specs.Marks.{Clear}
 use Rattle.model.specs.Listing.{Race}
 use Rattle.decision.specs.Decision.{nextRace}
 use Rattle.model.specs.Lists.{inFront, threads}
@@ -57,15 +55,11 @@ module _ (s : List ℕ) {rows rows′ : List ℕ} {x : Opened} (o : Opens (refus
   unfolding linesAt
   refused-writes r q a = let l = fill-last (length out) (refusedLine r) in rw (refused-by o r q) (record { puts = rw l a; stops = rw l })
 
--- a new list and a new work area are ready
-pub new-writing : {p : Position} {table out : List ℕ} → Starting table p out → (list area : List ℕ) → length list ≡ maxEvents → area ≡ replicate areaBytes 0
-    → Writing table p list area 0 out
-unfolding Clear
-new-writing g list area l z =
-    let n : length area ≡ areaBytes = ap length z ∙ length-replicate {A = ℕ} areaBytes 0 in
-    let c : area ≡ replicate (length area) 0 = z ∙ ap (λ (i : ℕ). replicate i 0) (sym n) in
+-- a new list is ready
+pub new-writing : {p : Position} {table out : List ℕ} → Starting table p out → (list : List ℕ) → length list ≡ maxEvents → Writing table p list 0 out
+new-writing g list l =
     let s = g .links .good .size in
-    record { lent = record { links = g .links; room = omega arith; clear = c; long = omega arith }; entries = l; countable = g .countable; room = g .room }
+    record { lent = record { links = g .links; room = omega arith }; entries = l; countable = g .countable; room = g .room }
 
 -- ---- one line
 
@@ -73,28 +67,27 @@ new-writing g list area l z =
 pub line-events : (t : Trace) (k m : ℕ) → k ≡ length t → m ≡ length (threads t) → {at : ℕ} {out out′ : List ℕ} {n : ℕ} → Appends (eventsLine k m) at out out′ n → Appends (firstLine t) at out out′ n
 line-events t k m ek em a = rw (ek, em) at a
 
-module _ {p : Position} {table list area : List ℕ} {at : ℕ} {out : List ℕ} (g : Writing table p list area at out) where
+module _ {p : Position} {table list : List ℕ} {at : ℕ} {out : List ℕ} (g : Writing table p list at out) where
   -- the first line
   pub line-first : p .next ≡ 0 → {out′ : List ℕ} {r : ℕ} → Appends (firstLine (trace table)) at out out′ r
-      → Advances (trace table) (linesFrom (trace table) p) list list area area at out out′ (More r (behindFirst p))
+      → Advances (trace table) (linesFrom (trace table) p) list list at out out′ (More r (behindFirst p))
   line-first e a = record {
     line = firstLine (trace table);
     first = from-first (trace table) p e;
     puts = a;
     countable = first-countable (trace table) p (g .countable);
-    area-same = refl;
     list-long = refl;
   }
 
   -- another
-  pub line-next : p .next ≢ 0 → {list′ area′ out′ : List ℕ} (w : Progress) → Advances (trace table) (racesFrom (trace table) p) list list′ area area′ at out out′ w
-      → Advances (trace table) (linesFrom (trace table) p) list list′ area area′ at out out′ w
+  pub line-next : p .next ≢ 0 → {list′ out′ : List ℕ} (w : Progress) → Advances (trace table) (racesFrom (trace table) p) list list′ at out out′ w
+      → Advances (trace table) (linesFrom (trace table) p) list list′ at out out′ w
   line-next e w a = rw (from-races (trace table) p e) a
 
   -- that of a race, or the last
-  module _ {list′ area′ : List ℕ} (x : Handed) (h : Hands (nextRace (trace table) (p .lower) (p .higher)) list list′ area area′ x) (long : length list′ ≡ length list) where
+  module _ {list′ : List ℕ} (x : Handed) (h : Hands (nextRace (trace table) (p .lower) (p .higher)) list list′ x) (long : length list′ ≡ length list) where
     pub line-ended : x ≡ NoMore → {out′ : List ℕ} {r : ℕ} → Appends (racesLine (p .count)) at out out′ r
-        → Advances (trace table) (racesFrom (trace table) p) list list′ area area′ at out out′ (Ended r)
+        → Advances (trace table) (racesFrom (trace table) p) list list′ at out out′ (Ended r)
     line-ended e a =
         let n = handed-none (nextRace (trace table) (p .lower) (p .higher)) (sym e ∙ h .says) in
         record {
@@ -102,13 +95,12 @@ module _ {p : Position} {table list area : List ℕ} {at : ℕ} {out : List ℕ}
           first = from-end (trace table) (g .lent .links .good .well-formed) p n;
           puts = a;
           countable = tt;
-          area-same = h .same;
           list-long = long;
         }
 
     by-race : (y : Race) → nextRace (trace table) (p .lower) (p .higher) ≡ some y → (k j : ℕ) → k ≡ y .lower → j ≡ y .higher → {out′ : List ℕ} {r : ℕ}
         → Appends (raceLine k j (y .witness)) at out out′ r
-        → Advances (trace table) (racesFrom (trace table) p) list list′ area area′ at out out′ (More r (record { next = 1; lower = k; higher = j; count = p .count + 1 }))
+        → Advances (trace table) (racesFrom (trace table) p) list list′ at out out′ (More r (record { next = 1; lower = k; higher = j; count = p .count + 1 }))
     by-race y e k j ek ej a =
         let w = g .lent .links .good .well-formed in
         let b = rw (ek, ej) at a in
@@ -117,7 +109,6 @@ module _ {p : Position} {table list area : List ℕ} {at : ℕ} {out : List ℕ}
           first = from-race (trace table) w p y e;
           puts = b;
           countable = race-countable (trace table) w p y e (g .countable) .1;
-          area-same = h .same;
           list-long = long;
         })
 
@@ -145,38 +136,31 @@ module _ {p : Position} {table list area : List ℕ} {at : ℕ} {out : List ℕ}
       in-front = let v = race .0 .witness in ap (λ (i : ℕ). take i list′) (race .4) ∙ ap (take (length v)) in-list ∙ front-taken v list
 
       pub line-more : {out′ : List ℕ} {r : ℕ} → Appends (raceLine k j (take n list′)) at out out′ r
-          → Advances (trace table) (racesFrom (trace table) p) list list′ area area′ at out out′ (More r (record { next = 1; lower = k; higher = j; count = p .count + 1 }))
+          → Advances (trace table) (racesFrom (trace table) p) list list′ at out out′ (More r (record { next = 1; lower = k; higher = j; count = p .count + 1 }))
       line-more a = let y = race in by-race (y .0) (y .1) k j (y .2) (y .3) (rw in-front at a)
 
 -- what is lent is ready for the next line
-again : {p q : Position} {table list list′ area area′ : List ℕ} {at m : ℕ} {out out′ : List ℕ} → Writing table p list area at out
-    → Countable (trace table) q → area′ ≡ area → length list′ ≡ length list → Room m out′ → Writing table q list′ area′ m out′
-again g c s l h =
+again : {p q : Position} {table list list′ : List ℕ} {at m : ℕ} {out out′ : List ℕ} → Writing table p list at out
+    → Countable (trace table) q → length list′ ≡ length list → Room m out′ → Writing table q list′ m out′
+again g c l h =
     let i = g .entries in
     let d = g .lent .room in
-    record {
-      lent = rw s (record { links = g .lent .links; room = omega arith; clear = g .lent .clear; long = g .lent .long });
-      entries = omega arith;
-      countable = c;
-      room = h;
-    }
+    record { lent = record { links = g .lent .links; room = omega arith }; entries = omega arith; countable = c; room = h }
 
 -- ---- as many lines as fit
 
 -- the lines from p on are written as far as q: some bytes were put, and what is to be put in all is these and what is to be put from q on
-pub record Filling (table : List ℕ) (p : Position) (list₀ area₀ out₀ list area out : List ℕ) (q : Position) (n : ℕ) : Type 0 where
-  pub writing : Writing table q list area n out
+pub record Filling (table : List ℕ) (p : Position) (list₀ out₀ list out : List ℕ) (q : Position) (n : ℕ) : Type 0 where
+  pub writing : Writing table q list n out
   pub put : List ℕ
   pub puts : Appends put 0 out₀ out n
   pub bytes : fill (length out₀) (linesFrom (trace table) p) .0 ≡ put ++ fill (length out - n) (linesFrom (trace table) q) .0
   pub stops : fill (length out₀) (linesFrom (trace table) p) .1 ≡ fill (length out - n) (linesFrom (trace table) q) .1
   pub left : length (linesFrom (trace table) q) ≤ length (linesFrom (trace table) p)
-  pub area-is : area ≡ area₀
-  pub area-long : length area ≡ length area₀
   pub list-long : length list ≡ length list₀
   pub out-long : length out ≡ length out₀
 
-pub filling-start : {p : Position} {table list area out : List ℕ} → Writing table p list area 0 out → Filling table p list area out list area out p 0
+pub filling-start : {p : Position} {table list out : List ℕ} → Writing table p list 0 out → Filling table p list out list out p 0
 filling-start {out = out} g = record {
   writing = g;
   put = [];
@@ -184,16 +168,14 @@ filling-start {out = out} g = record {
   bytes = rw (sub-zero (length out));
   stops = rw (sub-zero (length out));
   left = omega arith;
-  area-is = refl;
-  area-long = refl;
   list-long = refl;
   out-long = refl;
 }
 
 -- what was put is what fills the buffer
-filled : {p : Position} {table list₀ area₀ out₀ list area out : List ℕ} {q : Position} {m : ℕ} → Filling table p list₀ area₀ out₀ list area out q m
-    → {list′ area′ out′ : List ℕ} (w : Progress) (x : Advances (trace table) (linesFrom (trace table) q) list list′ area area′ m out out′ w)
-    → fill (length out - m) (linesFrom (trace table) q) ≡ (x .line, nextOf w) → Fills (trace table) p list₀ list′ area₀ area′ out₀ out′ w
+filled : {p : Position} {table list₀ out₀ list out : List ℕ} {q : Position} {m : ℕ} → Filling table p list₀ out₀ list out q m
+    → {list′ out′ : List ℕ} (w : Progress) (x : Advances (trace table) (linesFrom (trace table) q) list list′ m out out′ w)
+    → fill (length out - m) (linesFrom (trace table) q) ≡ (x .line, nextOf w) → Fills (trace table) p list₀ list′ out₀ out′ w
 filled f w x b =
     let l = ap length (x .first) in
     let k = f .left in
@@ -201,19 +183,18 @@ filled f w x b =
       writes = record { puts = rw (f .bytes, b) (appends-then (f .puts) (x .puts)); stops = sym (f .stops ∙ ap (λ (z : List ℕ × Option Position). z .1) b) };
       fewer = omega arith;
       countable = x .countable;
-      area-same = x .area-same ∙ f .area-is;
       list-long = x .list-long ∙ f .list-long;
     }
 
-module _ {p : Position} {table list₀ area₀ out₀ list area out : List ℕ} {q : Position} {m : ℕ} (f : Filling table p list₀ area₀ out₀ list area out q m)
-    {list′ area′ out′ : List ℕ} (w : Progress) (x : Advances (trace table) (linesFrom (trace table) q) list list′ area area′ m out out′ w) where
-  pub fill-ended : (n : ℕ) → w ≡ Ended n → Fills (trace table) p list₀ list′ area₀ area′ out₀ out′ (Ended n)
+module _ {p : Position} {table list₀ out₀ list out : List ℕ} {q : Position} {m : ℕ} (f : Filling table p list₀ out₀ list out q m)
+    {list′ out′ : List ℕ} (w : Progress) (x : Advances (trace table) (linesFrom (trace table) q) list list′ m out out′ w) where
+  pub fill-ended : (n : ℕ) → w ≡ Ended n → Fills (trace table) p list₀ list′ out₀ out′ (Ended n)
   fill-ended n e =
-      let y : Advances (trace table) (linesFrom (trace table) q) list list′ area area′ m out out′ (Ended n) = rw e at x in
+      let y : Advances (trace table) (linesFrom (trace table) q) list list′ m out out′ (Ended n) = rw e at x in
       filled f (Ended n) y (ap (fill (length out - m)) (y .first) ∙ fill-last (length out - m) (y .line))
 
   module _ (n : ℕ) (r : Position) (e : w ≡ More n r) where
-    moved : Advances (trace table) (linesFrom (trace table) q) list list′ area area′ m out out′ (More n r)
+    moved : Advances (trace table) (linesFrom (trace table) q) list list′ m out out′ (More n r)
     moved = rw e at x
 
     pub fill-within : n ≤ length out′
@@ -226,14 +207,14 @@ module _ {p : Position} {table list₀ area₀ out₀ list area out : List ℕ} 
     room-left : length out - m - length (moved .line) ≡ length out′ - n
     room-left = let k = moved .puts .ends in let s = moved .puts .same in omega arith
 
-    pub fill-full : length out′ - n < lineBytes → Fills (trace table) p list₀ list′ area₀ area′ out₀ out′ (More n r)
+    pub fill-full : length out′ - n < lineBytes → Fills (trace table) p list₀ list′ out₀ out′ (More n r)
     fill-full h =
         let y = moved in
         let k = room-left in
         let v : length out - m - length (y .line) < lineBytes = omega arith in
         filled f (More n r) y (ap (fill (length out - m)) (y .first) ∙ fill-stops (length out - m) (record { bytes = y .line; behind = some r }) (linesFrom (trace table) r) v)
 
-    pub fill-on : lineBytes ≤ length out′ - n → Filling table p list₀ area₀ out₀ list′ area′ out′ r n
+    pub fill-on : lineBytes ≤ length out′ - n → Filling table p list₀ out₀ list′ out′ r n
     fill-on h =
         let y = moved in
         let k = room-left in
@@ -245,27 +226,25 @@ module _ {p : Position} {table list₀ area₀ out₀ list area out : List ℕ} 
         let g : fill (length out - m) (linesFrom (trace table) q) ≡ (y .line ++ fill (length out′ - n) (linesFrom (trace table) r) .0, fill (length out′ - n) (linesFrom (trace table) r) .1) =
         rw k at (ap (fill (length out - m)) (y .first) ∙ fill-goes (length out - m) (record { bytes = y .line; behind = some r }) (linesFrom (trace table) r) v) in
         record {
-          writing = again (f .writing) (y .countable) (y .area-same) (y .list-long) d;
+          writing = again (f .writing) (y .countable) (y .list-long) d;
           put = f .put ++ y .line;
           puts = appends-then (f .puts) (y .puts);
           bytes = f .bytes ∙ ap (λ (z : List ℕ × Option Position). f .put ++ z .0) g ∙ sym (append-assoc (f .put) (y .line) (fill (length out′ - n) (linesFrom (trace table) r) .0));
           stops = f .stops ∙ ap (λ (z : List ℕ × Option Position). z .1) g;
           left = omega arith;
-          area-is = y .area-same ∙ f .area-is;
-          area-long = ap length (y .area-same) ∙ f .area-long;
           list-long = y .list-long ∙ f .list-long;
           out-long = y .puts .same ∙ f .out-long;
         }
 
 -- ---- block after block: what a caller goes on by
 
-module _ {p : Position} {table list area out : List ℕ} (g : Writing table p list area 0 out)
-    {list′ area′ out′ : List ℕ} (w : Progress) (x : Fills (trace table) p list list′ area area′ out out′ w) where
+module _ {p : Position} {table list out : List ℕ} (g : Writing table p list 0 out)
+    {list′ out′ : List ℕ} (w : Progress) (x : Fills (trace table) p list list′ out out′ w) where
   pub ended-within : (n : ℕ) → w ≡ Ended n → n ≤ length out′
-  ended-within n e = let y : Fills (trace table) p list list′ area area′ out out′ (Ended n) = rw e at x in let a = y .writes .puts .within in let b = y .writes .puts .same in omega arith
+  ended-within n e = let y : Fills (trace table) p list list′ out out′ (Ended n) = rw e at x in let a = y .writes .puts .within in let b = y .writes .puts .same in omega arith
 
   module _ (n : ℕ) (q : Position) (e : w ≡ More n q) where
-    more : Fills (trace table) p list list′ area area′ out out′ (More n q)
+    more : Fills (trace table) p list list′ out out′ (More n q)
     more = rw e at x
 
     pub more-within : n ≤ length out′
@@ -275,5 +254,5 @@ module _ {p : Position} {table list area out : List ℕ} (g : Writing table p li
     more-less = more .fewer
 
     -- the next block in the same buffer
-    pub more-again : Writing table q list′ area′ 0 out′
-    more-again = let y = more in let r = g .room in let b = y .writes .puts .same in let d : Room 0 out′ = omega arith in again g (y .countable) (y .area-same) (y .list-long) d
+    pub more-again : Writing table q list′ 0 out′
+    more-again = let y = more in let r = g .room in let b = y .writes .puts .same in let d : Room 0 out′ = omega arith in again g (y .countable) (y .list-long) d

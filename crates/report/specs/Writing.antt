@@ -28,8 +28,8 @@ pub record Starting (table : List ℕ) (p : Position) (out : List ℕ) : Type 0 
 
 -- what writing goes by: a table and what is lent for its witnesses, the list with as many entries as a trace may have events; a position, and room
 -- for a line
-pub record Writing (table : List ℕ) (p : Position) (list area : List ℕ) (at : ℕ) (out : List ℕ) : Type 0 where
-  pub lent : WitnessRoom table list area
+pub record Writing (table : List ℕ) (p : Position) (list : List ℕ) (at : ℕ) (out : List ℕ) : Type 0 where
+  pub lent : WitnessRoom table list
   pub entries : length list ≡ maxEvents
   pub countable : Countable (trace table) p
   pub room : Room at out
@@ -52,13 +52,12 @@ abbrev pub OnNext : (Position → Type 0) → Option Position → Type 0
 OnNext Is none = Unit {0}
 OnNext Is (some p) = Is p
 
--- the first of the lines l was written, the work area is as it was, and the list as long
-pub record Advances (t : Trace) (l : List Line) (list list′ area area′ : List ℕ) (at : ℕ) (out out′ : List ℕ) (w : Progress) : Type 0 where
+-- the first of the lines l was written, and the list is as long
+pub record Advances (t : Trace) (l : List Line) (list list′ : List ℕ) (at : ℕ) (out out′ : List ℕ) (w : Progress) : Type 0 where
   pub line : List ℕ
   pub first : l ≡ record { bytes = line; behind = nextOf w } ∷ after (linesFrom t) (nextOf w)
   pub puts : Appends line at out out′ (bytesOf w)
   pub countable : OnNext (Countable t) (nextOf w)
-  pub area-same : area′ ≡ area
   pub list-long : length list′ ≡ length list
 
 -- as many of the lines l as surely fit stand in the front of the buffer
@@ -66,10 +65,9 @@ pub record Writes (l : List Line) (out out′ : List ℕ) (w : Progress) : Type 
   pub puts : Appends (fill (length out) l .0) 0 out out′ (bytesOf w)
   pub stops : nextOf w ≡ fill (length out) l .1
 
--- and fewer lines are left; the work area is as it was, and the list as long
-pub record Fills (t : Trace) (p : Position) (list list′ area area′ out out′ : List ℕ) (w : Progress) : Type 0 where
+-- and fewer lines are left; the list is as long
+pub record Fills (t : Trace) (p : Position) (list list′ out out′ : List ℕ) (w : Progress) : Type 0 where
   pub writes : Writes (linesFrom t p) out out′ w
   pub fewer : length (after (linesFrom t) (nextOf w)) < length (linesFrom t p)
   pub countable : OnNext (Countable t) (nextOf w)
-  pub area-same : area′ ≡ area
   pub list-long : length list′ ≡ length list

@@ -59,22 +59,15 @@ fn first_line(table: &[u16], out: &mut [u8], at: usize) -> usize
     lines::events(out, at, events as u16, threads)
 }
 
-// The next race's line, or the last line. The race and its witness come from one search.
-fn race_line(
-    table: &[u16],
-    p: Position,
-    list: &mut [u16],
-    area: &mut [u8],
-    out: &mut [u8],
-    at: usize,
-) -> Progress
-    requires { ⌜ Writing (now table) p (now list) (now area) at (now out) ⌝ }
-    ensures { λ r. ⌜ Advances (trace (now (table .entry))) (racesFrom (trace (now (table .entry))) p) (now (list .entry)) (now (list .exit)) (now (area .entry)) (now (area .exit)) at (now (out .entry)) (now (out .exit)) r ⌝ }
+// The next race's line, or the last line. The race and its witness come from one asking.
+fn race_line(table: &[u16], p: Position, list: &mut [u16], out: &mut [u8], at: usize) -> Progress
+    requires { ⌜ Writing (now table) p (now list) at (now out) ⌝ }
+    ensures { λ r. ⌜ Advances (trace (now (table .entry))) (racesFrom (trace (now (table .entry))) p) (now (list .entry)) (now (list .exit)) at (now (out .entry)) (now (out .exit)) r ⌝ }
 {
     let a = p.lower;
     let b = p.higher;
     let count = p.count;
-    match races::next_race(table, a, b, list, area) {
+    match races::next_race(table, a, b, list) {
         Handed::NoMore => Progress::Ended(lines::races(out, at, count)),
         Handed::Race {
             lower,
@@ -96,19 +89,12 @@ fn race_line(
 }
 
 // The line that comes next at a position.
-fn line(
-    table: &[u16],
-    p: Position,
-    list: &mut [u16],
-    area: &mut [u8],
-    out: &mut [u8],
-    at: usize,
-) -> Progress
-    requires { ⌜ Writing (now table) p (now list) (now area) at (now out) ⌝ }
-    ensures { λ r. ⌜ Advances (trace (now (table .entry))) (linesFrom (trace (now (table .entry))) p) (now (list .entry)) (now (list .exit)) (now (area .entry)) (now (area .exit)) at (now (out .entry)) (now (out .exit)) r ⌝ }
+fn line(table: &[u16], p: Position, list: &mut [u16], out: &mut [u8], at: usize) -> Progress
+    requires { ⌜ Writing (now table) p (now list) at (now out) ⌝ }
+    ensures { λ r. ⌜ Advances (trace (now (table .entry))) (linesFrom (trace (now (table .entry))) p) (now (list .entry)) (now (list .exit)) at (now (out .entry)) (now (out .exit)) r ⌝ }
 {
     if p.next != 0 {
-        return race_line(table, p, list, area, out, at);
+        return race_line(table, p, list, out, at);
     }
     let bytes = first_line(table, out, at);
     Progress::More(
@@ -123,20 +109,14 @@ fn line(
 }
 
 // The lines from a position on, as many as surely fit, in the front of a buffer.
-pub fn block(
-    table: &[u16],
-    p: Position,
-    list: &mut [u16],
-    area: &mut [u8],
-    out: &mut [u8],
-) -> Progress
-    requires { ⌜ Writing (now table) p (now list) (now area) 0 (now out) ⌝ }
-    ensures { λ r. ⌜ Fills (trace (now (table .entry))) p (now (list .entry)) (now (list .exit)) (now (area .entry)) (now (area .exit)) (now (out .entry)) (now (out .exit)) r ⌝ }
+pub fn block(table: &[u16], p: Position, list: &mut [u16], out: &mut [u8]) -> Progress
+    requires { ⌜ Writing (now table) p (now list) 0 (now out) ⌝ }
+    ensures { λ r. ⌜ Fills (trace (now (table .entry))) p (now (list .entry)) (now (list .exit)) (now (out .entry)) (now (out .exit)) r ⌝ }
 {
     let mut position = p;
     let mut bytes = 0;
     loop {
-        match line(table, position, list, area, out, bytes) {
+        match line(table, position, list, out, bytes) {
             Progress::Ended(n) => return Progress::Ended(n),
             Progress::More(n, next) => {
                 if out.len() - n < LINE_BYTES {
@@ -149,14 +129,13 @@ pub fn block(
     }
 }
 
-// The same with a new list and a new work area.
+// The same with a new list.
 fn new_block(table: &[u16], p: Position, out: &mut [u8]) -> Progress
     requires { ⌜ Starting (now table) p (now out) ⌝ }
     ensures { λ r. ⌜ Writes (linesFrom (trace (now (table .entry))) p) (now (out .entry)) (now (out .exit)) r ⌝ }
 {
     let mut list = [0u16; Recording::MAX_EVENTS];
-    let mut area = [0u8; Recording::AREA_BYTES];
-    block(table, p, &mut list, &mut area, out)
+    block(table, p, &mut list, out)
 }
 
 // The lines of a file's report from a position on, as many as surely fit, in the front of a buffer.

@@ -22,17 +22,17 @@ use Rattle.table.specs.Links.{previous, observedBy, releaseOf}
 -- ---- the nearest event
 
 module _ (p : ℕ → Bool) where
-  nearest-true : (l : List ℕ) → nearest p l ≢ 0 → p (nearest p l) ≡ true
+  pub nearest-true : (l : List ℕ) → nearest p l ≢ 0 → p (nearest p l) ≡ true
   nearest-true [] ne = absurd (ne refl)
   nearest-true (k ∷ l) ne = by-cases (p k) (λ e. rw e e) (λ e. rw e (nearest-true l (rw e at ne)))
 
-  nearest-less : (k : ℕ) → 1 ≤ k → nearest p (before k) < k
+  pub nearest-less : (k : ℕ) → 1 ≤ k → nearest p (before k) < k
   nearest-less k h =
       by-cases (eqb (nearest p (before k)) 0)
       (λ e. let z : nearest p (before k) ≡ 0 = eqb-true _ _ e in omega arith)
       (λ e. mem-before k _ (nearest-mem p (before k) (eqb-false _ _ e)) .1)
 
-  nearest-last : (m j : ℕ) → 1 ≤ j → j ≤ m → p j ≡ true → j ≤ nearest p (upTo m)
+  pub nearest-last : (m j : ℕ) → 1 ≤ j → j ≤ m → p j ≡ true → j ≤ nearest p (upTo m)
   nearest-last zero j h l e = absurd (omega arith)
   nearest-last (suc m) j h l e =
       by-cases (p (suc m))

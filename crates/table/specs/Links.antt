@@ -1,12 +1,12 @@
 -- What each event is linked to.
 use Prim.Native.Nat.{ℕ}
-use mathlib.Core.Bool.{cond, _||_}
+use mathlib.Core.Bool.{cond, _&&_, _||_}
 use mathlib.Core.List.{List}
 use lib.Dec.{eqb}
-use Rattle.model.specs.Trace.{Trace, read, acquire, release, threadOf, kindOf}
+use Rattle.model.specs.Trace.{Trace, read, write, acquire, release, threadOf, kindOf, objectOf}
 use Rattle.model.specs.Lists.{before, nearest, just}
 use Rattle.model.specs.Observed.{observed}
-use Rattle.model.specs.Sections.{ownDepth, isLast}
+use Rattle.model.specs.Sections.{ownDepth, isOutermost, isLast}
 use Rattle.model.specs.Cone.{matching}
 
 -- the last event of thread c in a history; 0 where there is none
@@ -28,3 +28,16 @@ lockDepth t k = cond (eqb (kindOf t k) acquire || eqb (kindOf t k) release) (own
 -- where the section ends that event k begins or ends: the matching release of an outermost acquire, a last release itself; 0 where there is none, and for every other event
 unfoldable pub releaseOf : Trace → ℕ → ℕ
 releaseOf t k = cond (isLast t k) k (matching t k)
+
+-- the last outermost acquire of lock x in a history; 0 where there is none
+abbrev pub lastTaken : Trace → ℕ → List ℕ → ℕ
+lastTaken t x h = nearest (λ j. isOutermost t j && eqb (objectOf t j) x) h
+
+-- where the interval begins that event k is in: a write, and for a read its observed write; an outermost acquire, and for a last release the acquire of its section;
+-- 0 where there is none, and for every other event
+unfoldable pub began : Trace → ℕ → ℕ
+began t k =
+    cond (eqb (kindOf t k) write) k
+    (cond (eqb (kindOf t k) read) (observed t k)
+    (cond (isOutermost t k) k
+    (cond (isLast t k) (lastTaken t (objectOf t k) (before k)) 0)))

@@ -7,7 +7,7 @@ ghost use lib.ListN.{length};
 ghost use Rattle.model.specs.Trace.{Valid, threadOf, kindOf, objectOf, does};
 ghost use Rattle.model.specs.Lists.{threads};
 ghost use Rattle.model.specs.Good.{Good, maxThread, maxObject};
-ghost use Rattle.table.specs.Links.{previous, observedBy, releaseOf};
+ghost use Rattle.table.specs.Links.{previous, observedBy, releaseOf, began};
 ghost use Rattle.decision.specs.Decision.{isConflicting};
 ghost use Rattle.table.specs.Conflicts.{Lower, accesses};
 ghost use Rattle.table.specs.Table.{words, word, trace, columns, column, Linked, Place, withWord};
@@ -32,8 +32,11 @@ pub const OBSERVED: usize = 3;
 // how deep its thread holds its lock before it,
 pub const DEPTH: usize = 4;
 
-// the end of its section.
+// the end of its section,
 pub const RELEASED: usize = 5;
+
+// where its interval begins.
+pub const BEGAN: usize = 6;
 
 // A word as a number to reckon with.
 pub fn wide(x: u16) -> usize
@@ -116,6 +119,7 @@ pub fn is_event(table: &[u16], k: usize, kind: u8, object: usize) -> bool
 fn column_at(table: &[u16], k: usize, c: usize) -> usize
     requires { ⌜ Linked (now table) × (Valid (trace (now table)) k × (c < columns)) ⌝ }
     ensures { λ r. ⌜ r ≡ column c (trace (now (table .entry))) k ⌝ }
+    ensures { λ r. ⌜ r < 65536 ⌝ }
 {
     word(table, k, c)
 }
@@ -132,6 +136,7 @@ pub fn previous_at(table: &[u16], k: usize) -> usize
 pub fn observed_at(table: &[u16], k: usize) -> usize
     requires { ⌜ Linked (now table) × Valid (trace (now table)) k ⌝ }
     ensures { λ r. ⌜ r ≡ observedBy (trace (now (table .entry))) k ⌝ }
+    ensures { λ r. ⌜ r < 65536 ⌝ }
 {
     column_at(table, k, OBSERVED)
 }
@@ -142,6 +147,15 @@ pub fn released_at(table: &[u16], k: usize) -> usize
     ensures { λ r. ⌜ r ≡ releaseOf (trace (now (table .entry))) k ⌝ }
 {
     column_at(table, k, RELEASED)
+}
+
+// Where the interval begins that event k is in: a write, or a read's observed write; an outermost acquire, or that of a last release; 0 where there is none.
+pub fn began_at(table: &[u16], k: usize) -> usize
+    requires { ⌜ Linked (now table) × Valid (trace (now table)) k ⌝ }
+    ensures { λ r. ⌜ r ≡ began (trace (now (table .entry))) k ⌝ }
+    ensures { λ r. ⌜ r < 65536 ⌝ }
+{
+    column_at(table, k, BEGAN)
 }
 
 // Are events of these kinds accesses, at least one a write?

@@ -1,6 +1,5 @@
 -- The ways through question 4 on a table.
 use Prim.Native.Nat.{ℕ}
-use native.Mathlib.Omega.{arith}
 use mathlib.Core.Path.{_≡_, sym, _∙_, ap, ap₂}
 use mathlib.Core.Bool.{Bool, true, false, not}
 use mathlib.Core.Option.{Option, none}
@@ -8,14 +7,12 @@ use mathlib.Core.List.{List, _++_}
 use lib.ListN.{length, take, drop, replicate}
 use borrow.Author.Tests.{not-true, not-false}
 use Rattle.model.specs.Trace.{Trace}
-use Rattle.model.specs.Good.{maxEvents}
 use Rattle.model.specs.Listing.{Race}
 use Rattle.model.proofs.Lists.{front-length}
 use Rattle.decision.specs.Decision.{nextRace}
 use Rattle.limits.specs.Limits.{areaBytes, isAreaSize}
 use Rattle.limits.specs.declared.Refusal.the-variants.{AreaShort}
 use Rattle.table.specs.Table.{Linked}
-use Rattle.races.specs.Witness.{WitnessRoom}
 use Rattle.races.specs.Next.{Hands}
 use Rattle.races.proofs.AnswerLaws.{handed-none, handed-some}
 use Rattle.races.specs.declared.Handed.{Handed}
@@ -24,22 +21,18 @@ use Rattle.verdicts.specs.Next.{next, nextIn}
 use Rattle.verdicts.specs.Deciding.{Searchable, Finds}
 use Rattle.verdicts.specs.declared.Next.{Next}
 use Rattle.verdicts.specs.declared.Next.the-variants.{Refused, Race as RaceOn, NoRace}
-use Rattle.verdicts.proofs.VerdictLaws.{area-long, whole-area, lent}
+use Rattle.verdicts.proofs.VerdictLaws.{area-long, whole-area}
 
--- ---- on a cleared work area
+-- ---- with a cleared work area
 
-module _ (area area₁ : List ℕ) (c : area₁ ≡ replicate (length area) 0) where
-  pub races-lent : {table : List ℕ} → Searchable table area → (list : List ℕ) → length list ≡ maxEvents → WitnessRoom table list area₁
-  races-lent {table} d list l = let s = d .links .good .size in lent (d .links) list (omega arith) area area₁ (d .long) c
+module _ {o : Option Race} {list list′ : List ℕ} (x : Handed) (w : Hands o list list′ x) (area area′ : List ℕ) (c : area′ ≡ replicate (length area) 0) where
+  pub none-handed : x ≡ NoMore → Finds o area area′ NoRace
+  none-handed e = record { says = sym (ap next (handed-none o (sym e ∙ w .says))); zero = c }
 
-  module _ {o : Option Race} {list list′ area₂ : List ℕ} (x : Handed) (w : Hands o list list′ area₁ area₂ x) where
-    pub none-handed : x ≡ NoMore → Finds o area area₂ NoRace
-    none-handed e = record { says = sym (ap next (handed-none o (sym e ∙ w .says))); zero = w .same ∙ c }
-
-    pub one-handed : (k j m : ℕ) → x ≡ Found k j m → Finds o area area₂ (RaceOn k j)
-    one-handed k j m e =
-        let y = handed-some o k j m (sym e ∙ w .says) in
-        record { says = ap₂ RaceOn (y .2) (y .3) ∙ sym (ap next (y .1)); zero = w .same ∙ c }
+  pub one-handed : (k j m : ℕ) → x ≡ Found k j m → Finds o area area′ (RaceOn k j)
+  one-handed k j m e =
+      let y = handed-some o k j m (sym e ∙ w .says) in
+      record { says = ap₂ RaceOn (y .2) (y .3) ∙ sym (ap next (y .1)); zero = c }
 
 -- ---- the refusal, and the answer
 

@@ -5,7 +5,7 @@ use mathlib.Core.Path.{_≡_, sym, _∙_, ap}
 use mathlib.Core.Bool.{Bool, true, false, not}
 use mathlib.Core.Option.{Option, none}
 use mathlib.Core.List.{List, _++_}
-use lib.ListN.{length, take, drop, replicate, length-replicate}
+use lib.ListN.{length, take, drop, replicate}
 use borrow.Author.Tests.{not-true, not-false, le-ltb, lt-ltb}
 use Rattle.model.specs.Trace.{Trace}
 use Rattle.model.proofs.Lists.{front-length}
@@ -13,7 +13,7 @@ use Rattle.decision.specs.Decision.{witness, isConflicting}
 use Rattle.limits.specs.Limits.{areaBytes, isAreaSize}
 use Rattle.limits.specs.declared.Refusal.the-variants.{ListShort, NotConflicting, AreaShort}
 use Rattle.table.specs.Table.{trace, Linked}
-use Rattle.races.specs.Witness.{WitnessRoom, Shows}
+use Rattle.races.specs.Witness.{Shows}
 use Rattle.races.proofs.AnswerLaws.{witnessed-none, witnessed-some}
 use Rattle.races.specs.declared.Witnessed.{Witnessed}
 use Rattle.races.specs.declared.Witnessed.the-variants.{Absent, Length}
@@ -23,7 +23,6 @@ use Rattle.verdicts.specs.declared.Finding.{Finding}
 use Rattle.verdicts.specs.declared.Finding.the-variants.{Refused, Reported, NotReported}
 use lib.Seq.{length-take-le}
 use Rattle.limits.proofs.LimitLaws.{area-true}
-use Rattle.bits.specs.Marks.{Clear}
 
 pub area-long : (area : List ℕ) (b : Bool) → b ≡ isAreaSize (length area) → not b ≡ false → areaBytes ≤ length area
 area-long area b e w = area-true (length area) (sym e ∙ not-false b w)
@@ -36,29 +35,15 @@ pub whole-area : (area part : List ℕ) → areaBytes ≤ length area → part �
 unfolding cleared
 whole-area area part h z = front-zero areaBytes area part h z
 
--- what is lent for witnesses, once it was cleared
-pub lent : {table : List ℕ} → Linked table → (list : List ℕ) → length (trace table) ≤ length list
-    → (area area₁ : List ℕ) → length area ≡ areaBytes → area₁ ≡ replicate (length area) 0 → WitnessRoom table list area₁
-unfolding Clear
-lent k list l area area₁ n c =
-    let m : length area₁ ≡ length area = ap length c ∙ length-replicate (length area) 0 in
-    record { links = k; room = l; clear = c ∙ ap (λ (i : ℕ). replicate i 0) (sym m); long = omega arith }
+-- what is shown, with a cleared work area
+module _ {o : Option (List ℕ)} {list list′ : List ℕ} (x : Witnessed) (w : Shows o list list′ x) (area area′ : List ℕ) (c : area′ ≡ replicate (length area) 0) where
+  pub none-shown : x ≡ Absent → Decides o list list′ area area′ NotReported
+  none-shown e = record { says = sym (ap finding (witnessed-none o (sym e ∙ w .says))); wrote = w .wrote; zero = c }
 
--- ---- on a cleared work area
-
-module _ (area area₁ : List ℕ) (c : area₁ ≡ replicate (length area) 0) where
-  pub pair-lent : {table list : List ℕ} {a b : ℕ} → Decidable table a b list area → WitnessRoom table list area₁
-  pair-lent {list = list} d = lent (d .askable .links) list (d .askable .room) area area₁ (d .long) c
-
-  -- what is shown
-  module _ {o : Option (List ℕ)} {list list′ area₂ : List ℕ} (x : Witnessed) (w : Shows o list list′ area₁ area₂ x) where
-    pub none-shown : x ≡ Absent → Decides o list list′ area area₂ NotReported
-    none-shown e = record { says = sym (ap finding (witnessed-none o (sym e ∙ w .says))); wrote = w .wrote; zero = w .same ∙ c }
-
-    pub one-shown : (m : ℕ) → x ≡ Length m → Decides o list list′ area area₂ (Reported m)
-    one-shown m e =
-        let y = witnessed-some o m (sym e ∙ w .says) in
-        record { says = ap (λ (k : ℕ). Reported k) (y .2) ∙ sym (ap finding (y .1)); wrote = w .wrote; zero = w .same ∙ c }
+  pub one-shown : (m : ℕ) → x ≡ Length m → Decides o list list′ area area′ (Reported m)
+  one-shown m e =
+      let y = witnessed-some o m (sym e ∙ w .says) in
+      record { says = ap (λ (k : ℕ). Reported k) (y .2) ∙ sym (ap finding (y .1)); wrote = w .wrote; zero = c }
 
 -- ---- the refusals, and the answer
 

@@ -1,4 +1,4 @@
--- What the inner functions of questions 3 and 4 go by and leave: a work area of just the bytes that they need.
+-- What the inner functions of questions 3 and 4 go by and leave: a work area of just the bytes that are zero after an answer.
 use Prim.Native.Nat.{ℕ, _≤_}
 use mathlib.Core.Path.{_≡_}
 use mathlib.Core.Bool.{true}

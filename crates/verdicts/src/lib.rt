@@ -25,13 +25,13 @@ pub enum Next {
     NoRace,
 }
 
-// The verdict on (a, b), with a work area of just the bytes that it needs.
+// The verdict on (a, b), with a work area of just the bytes that are promised to be zero after it.
 fn decide(table: &[u16], a: u16, b: u16, list: &mut [u16], area: &mut [u8]) -> Finding
     requires { ⌜ Decidable (now table) a b (now list) (now area) ⌝ }
     ensures { λ r. ⌜ Decides (witness (trace (now (table .entry))) a b) (now (list .entry)) (now (list .exit)) (now (area .entry)) (now (area .exit)) r ⌝ }
 {
     bits::clear(area);
-    match races::witness(table, a, b, list, area) {
+    match races::witness(table, a, b, list) {
         Witnessed::Absent => Finding::NotReported,
         Witnessed::Length(length) => Finding::Reported { length },
     }
@@ -62,14 +62,14 @@ pub fn verdict_in(table: &[u16], a: u16, b: u16, list: &mut [u16], area: &mut [u
     verdict_with(table, a, b, list, area)
 }
 
-// The first race after (a, b), with a work area of just the bytes that it needs.
+// The first race after (a, b), with a work area of just the bytes that are promised to be zero after it.
 fn find_next(table: &[u16], a: u16, b: u16, area: &mut [u8]) -> Next
     requires { ⌜ Searchable (now table) (now area) ⌝ }
     ensures { λ r. ⌜ Finds (nextRace (trace (now (table .entry))) a b) (now (area .entry)) (now (area .exit)) r ⌝ }
 {
     bits::clear(area);
     let mut list = [0u16; Recording::MAX_EVENTS];
-    match races::next_race(table, a, b, &mut list, area) {
+    match races::next_race(table, a, b, &mut list) {
         Handed::NoMore => Next::NoRace,
         Handed::Race {
             lower,

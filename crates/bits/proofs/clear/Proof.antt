@@ -1,4 +1,4 @@
-use Rattle.bits.proofs.MarkLaws.{Cleared, cleared-more, cleared-end}
+use Rattle.bits.proofs.ClearLaws.{Cleared, cleared-more, cleared-end}
 use Prim.Native.Nat.{_-_}
 use lib.ListN.{length}
 use borrow.Author.Needs.{needs}

@@ -1,5 +1,6 @@
 use borrow.Author.Needs.{needs}
-use Rattle.cone.proofs.BringLaws.{brings-none, brings-flagged, brings-exempt, brings-new, prev-in, obs-in, rel-in}
+use Rattle.cone.proofs.RaiseLaws.{stops, goes}
+use Rattle.cone.proofs.BringLaws.{bring-observed, bring-exempt, bring-released, bring-both}
 use Rattle.cone.proofs.bring.Statement.{statement}
 use Rattle.cone.proofs.bring.Tie as tie
 
@@ -7,19 +8,11 @@ pub bring-spec : {M : Type 1} → statement M
 bring-spec =
     tie.close
     (tie.spec
-    (λ c. search needs)
-    (λ c. search brings-none)
     (λ c κs. search needs)
-    (λ c. search (prev-in, needs))
+    (λ c κs. search (bring-observed, needs))
+    (λ c. search (stops, needs))
+    (λ c. search (bring-exempt, needs))
     (λ c κs. search needs)
-    (λ c. search (obs-in, needs))
-    (λ c κs. search needs)
-    (λ c. search (rel-in, needs))
-    (λ c. search needs)
-    (λ c. search brings-flagged)
-    (λ c κs. search needs)
-    (λ c. search needs)
-    (λ c. search brings-exempt)
-    (λ c. search (rel-in, needs))
-    (λ c. search needs)
-    (λ c. search brings-new))
+    (λ c κs. let f = goes (c .before .before .before .before .raise .ensures) (c .before .before .before .if1 .left) in
+    (search needs, bring-released (search needs) _ _ (c .before .released-at .ensures) (search needs) _ (c .before .before .before .before .before .before .before .before .pre .1 .1) (c .before .before .if2 .left)))
+    (λ c. search (bring-both, needs)))

@@ -1,5 +1,5 @@
 use borrow.Author.Needs.{needs}
-use Rattle.cone.proofs.PickLaws.{put-flag, put-room, put-fits, put-not, put-one}
+use Rattle.cone.proofs.SplitLaws.{put-room, put-fits, put-not, put-one}
 use Rattle.cone.proofs.put.Statement.{statement}
 use Rattle.cone.proofs.put.Tie as tie
 
@@ -7,7 +7,7 @@ pub put-spec : {M : Type 1} → statement M
 put-spec =
     tie.close
     (tie.spec
-    (λ c κs. search (put-flag, needs))
+    (λ c κs. search needs)
     (λ c. search (put-not, needs))
     (λ c. search (put-fits, needs))
     (λ c. search needs)

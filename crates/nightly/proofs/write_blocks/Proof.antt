@@ -8,10 +8,10 @@ use Rattle.nightly.proofs.write_blocks.Statement.{statement}
 use Rattle.nightly.proofs.write_blocks.Tie as tie
 
 abbrev Inv-loop : tie.InvT-loop
-Inv-loop table list₀ area₀ out₀ position₀ list area out position = Between table list₀ area₀ out₀ list area out position
+Inv-loop table list₀ out₀ position₀ list out position = Between table list₀ out₀ list out position
 
 abbrev μ-loop : tie.MeasureT-loop
-μ-loop table list₀ area₀ out₀ position₀ list area out position = length (linesFrom (trace table) position)
+μ-loop table list₀ out₀ position₀ list out position = length (linesFrom (trace table) position)
 
 pub write-blocks-spec : {M : Type 1} → statement M
 write-blocks-spec =
@@ -28,9 +28,7 @@ write-blocks-spec =
     (λ c. search needs)
     (λ c. search needs)
     (λ c. search needs)
-    (λ c. search needs)
     (λ c κs. search (more-within, needs))
-    (λ c. search needs)
     (λ c. search needs)
     (λ c. search needs)
     (λ c. search needs)

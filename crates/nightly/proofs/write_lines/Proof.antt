@@ -8,7 +8,6 @@ write-lines-spec =
     tie.close
     (tie.spec
     (λ c. search needs)
-    (λ c. search needs)
     (λ c κs. search (new-writing, needs))
     (λ c. search needs)
     (λ c. search needs))

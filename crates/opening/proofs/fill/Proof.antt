@@ -14,10 +14,12 @@ fill-spec =
     (λ c κs. columns-own (c .before .before .before .add-previous .ensures) (omega arith))
     (λ c κs. columns-own (c .before .before .before .add-observed .ensures) (omega arith))
     (λ c κs. columns-own (c .before .before .before .add-depths .ensures) (omega arith))
+    (λ c κs. columns-own (c .before .before .before .add-released .ensures) (omega arith))
     (λ c. search needs)
     (λ c.
-    let r = c .before .before in
+    let b = c .before .before in
+    let r = b .before .before .before .before in
     let d = r .before .before .before .before in
     let o = d .before .before .before .before in
     let p = o .before .before .before .before in
-    fill-end (r .add-released .ensures) (d .add-depths .ensures) (o .add-observed .ensures) (p .add-previous .ensures) (p .before .before .before .before .add-own2 .ensures)))
+    fill-end (b .add-began .ensures) (r .add-released .ensures) (d .add-depths .ensures) (o .add-observed .ensures) (p .add-previous .ensures) (p .before .before .before .before .add-own2 .ensures)))

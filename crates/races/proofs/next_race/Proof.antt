@@ -5,10 +5,10 @@ use Rattle.races.proofs.next_race.Statement.{statement}
 use Rattle.races.proofs.next_race.Tie as tie
 
 abbrev Inv-loop : tie.InvT-loop
-Inv-loop table a b list₀ area₀ n x₀ after₀ list area x after = Walking table a b list₀ area₀ list area x after
+Inv-loop table a b list₀ n x₀ after₀ list x after = Walking table a b list₀ list x after
 
 abbrev μ-loop : tie.MeasureT-loop
-μ-loop table a b list₀ area₀ n x₀ after₀ list area x after = n + 1 - x
+μ-loop table a b list₀ n x₀ after₀ list x after = n + 1 - x
 
 pub next-race-spec : {M : Type 1} → statement M
 next-race-spec =
@@ -23,12 +23,10 @@ next-race-spec =
     (λ c. search needs)
     (λ c. search needs)
     (λ c. search needs)
-    (λ c. search needs)
     (λ c. search (race-found, needs))
     (λ c. search needs)
     (λ c. search (next-fits, needs))
     (λ c. search needs)
     (λ c. search (walking-on, needs))
-    (λ c. search needs)
     (λ c. search needs)
     (λ c. search (no-more, needs)))

@@ -5,10 +5,10 @@ use Rattle.races.proofs.next_with.Statement.{statement}
 use Rattle.races.proofs.next_with.Tie as tie
 
 abbrev Inv-loop : tie.InvT-loop
-Inv-loop table a b list₀ area₀ n y₀ list area y = Trying table a b list₀ area₀ list area y
+Inv-loop table a b list₀ n y₀ list y = Trying table a b list₀ list y
 
 abbrev μ-loop : tie.MeasureT-loop
-μ-loop table a b list₀ area₀ n y₀ list area y = n + 1 - y
+μ-loop table a b list₀ n y₀ list y = n + 1 - y
 
 pub next-with-spec : {M : Type 1} → statement M
 next-with-spec =
@@ -24,11 +24,9 @@ next-with-spec =
     (λ c. search needs)
     (λ c. search needs)
     (λ c. search needs)
-    (λ c. search needs)
     (λ c. search (with-found, needs))
     (λ c. search needs)
     (λ c. search needs)
     (λ c. search (trying-on, needs))
-    (λ c. search needs)
     (λ c. search needs)
     (λ c. search (with-no-more, needs)))

@@ -1,5 +1,5 @@
 use borrow.Author.Needs.{needs}
-use Rattle.races.proofs.WitnessLaws.{rooted, flags-room, lower-in, lower-in-cone, higher-in, higher-in-cone, valid-a, pair-searched}
+use Rattle.races.proofs.WitnessLaws.{rooted, root-found, valid-a, pair-coned, pair-thread, pair-shown}
 use Rattle.races.proofs.witness.Statement.{statement}
 use Rattle.races.proofs.witness.Tie as tie
 
@@ -8,15 +8,9 @@ witness-spec =
     tie.close
     (tie.spec
     (λ c. search needs)
-    (λ c. search needs)
-    (λ c κs. search (rooted, flags-room, needs))
-    (λ c. search (lower-in, needs))
-    (λ c. search lower-in-cone)
-    (λ c. search (higher-in, needs))
-    (λ c. search higher-in-cone)
+    (λ c κs. search (rooted, needs))
+    (λ c. search (root-found, needs))
     (λ c κs. search (valid-a, needs))
+    (λ c κs. search (pair-coned, pair-thread, needs))
     (λ c. search needs)
-    (λ c κs. search needs)
-    (λ c. search needs)
-    (λ c. search needs)
-    (λ c. search pair-searched))
+    (λ c. search (pair-shown, needs)))

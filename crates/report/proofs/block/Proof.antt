@@ -7,11 +7,11 @@ use Rattle.report.proofs.block.Statement.{statement}
 use Rattle.report.proofs.block.Tie as tie
 
 abbrev Inv-loop : tie.InvT-loop
-Inv-loop table list₀ area₀ out₀ position₀ bytes₀ list area out position bytes =
-    Filling table position₀ list₀ area₀ out₀ list area out position bytes
+Inv-loop table list₀ out₀ position₀ bytes₀ list out position bytes =
+    Filling table position₀ list₀ out₀ list out position bytes
 
 abbrev μ-loop : tie.MeasureT-loop
-μ-loop table list₀ area₀ out₀ position₀ bytes₀ list area out position bytes = length (linesFrom (trace table) position)
+μ-loop table list₀ out₀ position₀ bytes₀ list out position bytes = length (linesFrom (trace table) position)
 
 pub block-spec : {M : Type 1} → statement M
 block-spec =
@@ -24,11 +24,9 @@ block-spec =
     (λ c. search needs)
     (λ c. search needs)
     (λ c. search needs)
-    (λ c. search needs)
     (λ c. search (fill-ended, needs))
     (λ c. search needs)
     (λ c. search (fill-within, needs))
-    (λ c. search needs)
     (λ c. search needs)
     (λ c. search needs)
     (λ c. search (fill-full, needs))

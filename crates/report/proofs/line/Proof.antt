@@ -10,7 +10,6 @@ line-spec =
     (λ c κs. search needs)
     (λ c. search needs)
     (λ c. search needs)
-    (λ c. search needs)
     (λ c. search (line-next, needs))
     (λ c κs. search needs)
     (λ c. search needs)

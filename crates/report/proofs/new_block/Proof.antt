@@ -8,7 +8,6 @@ new-block-spec =
     tie.close
     (tie.spec
     (λ c. search needs)
-    (λ c. search needs)
     (λ c κs. search (new-writing, needs))
     (λ c. search needs)
     (λ c. search needs))

@@ -1,5 +1,5 @@
 use borrow.Author.Needs.{needs}
-use Rattle.verdicts.proofs.VerdictLaws.{pair-lent, none-shown, one-shown}
+use Rattle.verdicts.proofs.VerdictLaws.{none-shown, one-shown}
 use Rattle.verdicts.proofs.decide.Statement.{statement}
 use Rattle.verdicts.proofs.decide.Tie as tie
 
@@ -8,7 +8,7 @@ decide-spec =
     tie.close
     (tie.spec
     (λ c κs. search needs)
-    (λ c κs. search (pair-lent, needs))
+    (λ c κs. search needs)
     (λ c. search needs)
     (λ c. search needs)
     (λ c. search needs)

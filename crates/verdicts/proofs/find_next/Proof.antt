@@ -1,5 +1,5 @@
 use borrow.Author.Needs.{needs}
-use Rattle.verdicts.proofs.NextLaws.{races-lent, none-handed, one-handed}
+use Rattle.verdicts.proofs.NextLaws.{none-handed, one-handed}
 use Rattle.verdicts.proofs.find_next.Statement.{statement}
 use Rattle.verdicts.proofs.find_next.Tie as tie
 
@@ -9,7 +9,7 @@ find-next-spec =
     (tie.spec
     (λ c κs. search needs)
     (λ c. search needs)
-    (λ c κs. search (races-lent, needs))
+    (λ c κs. search needs)
     (λ c. search needs)
     (λ c. search needs)
     (λ c. search needs)

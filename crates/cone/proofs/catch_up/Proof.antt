@@ -1,0 +1,18 @@
+use borrow.Author.Needs.{needs}
+use Rattle.cone.proofs.FollowLaws.{caught-not, caught-raising, caught-within, caught}
+use Rattle.cone.proofs.catch_up.Statement.{statement}
+use Rattle.cone.proofs.catch_up.Tie as tie
+
+pub catch-up-spec : {M : Type 1} → statement M
+catch-up-spec =
+    tie.close
+    (tie.spec
+    (λ c κs. search needs)
+    (λ c κs. search needs)
+    (λ c. search (caught-not, needs))
+    (λ c. search needs)
+    (λ c. search needs)
+    (λ c. search needs)
+    (λ c. search needs)
+    (λ c κs. search (caught-raising, caught-within, needs))
+    (λ c. search (caught, needs)))
