@@ -4,7 +4,7 @@
 mod plain;
 mod recordings;
 
-use recordings::Family;
+use recordings::{Family, Slow};
 use std::io::Write;
 use std::process::{Command, Stdio};
 
@@ -21,15 +21,22 @@ fn report_by(program: &str, file: &[u8]) -> Vec<u8> {
     child.wait_with_output().expect("its report").stdout
 }
 
+/// Both reports of a recording are the same.
+fn compare(program: &str, file: &[u8], name: &str) {
+    let mut text = Vec::new();
+    plain::report(file, &mut text);
+    assert!(report_by(program, file) == text, "another report: {name}");
+}
+
 fn main() {
     let program = std::env::args().nth(1).expect("use: compare PROGRAM");
-    let mut text = Vec::new();
     for family in Family::all().into_iter().chain(Family::deep()) {
         for n in [128, 512] {
-            let file = family.recording(n, 1);
-            plain::report(&file, &mut text);
-            let same = report_by(&program, &file) == text;
-            assert!(same, "another report: {n} events, {}", family.name());
+            let name = format!("{n} events, {}", family.name());
+            compare(&program, &family.recording(n, 1), &name);
         }
+    }
+    for slow in Slow::ALL {
+        compare(&program, &slow.recording(128), slow.name());
     }
 }

@@ -6,7 +6,7 @@ mod recordings;
 #[path = "../bindings/tarungkis.rs"]
 mod tarungkis;
 
-use recordings::Family;
+use recordings::{Family, Slow};
 use std::hint::black_box;
 use std::time::{Duration, Instant};
 use tarungkis::Place;
@@ -44,6 +44,10 @@ fn least(mut run: impl FnMut()) -> Duration {
     times.min().unwrap()
 }
 
+fn ms(d: Duration) -> f64 {
+    d.as_secs_f64() * 1000.0
+}
+
 #[derive(Default, Clone, Copy)]
 struct Total {
     pairs: usize,
@@ -63,7 +67,6 @@ impl Total {
     }
 
     fn row(self) -> String {
-        let ms = |d: Duration| d.as_secs_f64() * 1000.0;
         let ratio = self.proved.as_secs_f64() / self.plain.as_secs_f64();
         format!(
             "{} | {} | {} | {:.1} | {:.1} | {ratio:.2}",
@@ -76,26 +79,37 @@ impl Total {
     }
 }
 
-/// Both reports of one recording: equal, and how long each takes.
-fn side_by_side(file: &[u8], text: &mut Vec<u8>, out: &mut [u8]) -> Total {
+/// How many races a report has.
+fn races(text: &[u8]) -> usize {
+    let lines = text.split(|&c| c == b'\n');
+    lines.filter(|l| l.starts_with(b"race ")).count()
+}
+
+/// Both reports of one recording: equal, and how long each takes. Plain Rust is timed in that one run.
+fn once(file: &[u8], text: &mut Vec<u8>, out: &mut [u8]) -> Total {
+    let start = Instant::now();
     let pairs = plain::report(file, text);
-    let n = proved(file, out);
-    assert!(out[..n] == text[..], "the two reports differ");
-    let races = text
-        .split(|&c| c == b'\n')
-        .filter(|l| l.starts_with(b"race "))
-        .count();
+    let plain = start.elapsed();
+    let bytes = proved(file, out);
+    assert!(out[..bytes] == text[..], "the two reports differ");
     Total {
         pairs,
-        races,
-        bytes: n,
-        plain: least(|| {
-            plain::report(file, text);
-        }),
+        races: races(text),
+        bytes,
+        plain,
         proved: least(|| {
             proved(file, out);
         }),
     }
+}
+
+/// The same, with the least of several runs of plain Rust too.
+fn side_by_side(file: &[u8], text: &mut Vec<u8>, out: &mut [u8]) -> Total {
+    let total = once(file, text, out);
+    let plain = least(|| {
+        plain::report(file, text);
+    });
+    Total { plain, ..total }
 }
 
 fn family(f: Family, n: usize, text: &mut Vec<u8>, out: &mut [u8]) -> Total {
@@ -170,6 +184,26 @@ fn table(families: Vec<Family>, n: usize, text: &mut Vec<u8>, out: &mut [u8]) ->
     all
 }
 
+/// What a search is slow on: one recording a row, and one run of plain Rust. Rows are printed as they are done.
+fn slow_table(text: &mut Vec<u8>, out: &mut [u8]) {
+    println!("recordings that a search is slow on; plain Rust: one run\n");
+    println!("recording | events | conflicting pairs | races | plain Rust, ms | proved, ms | times as quick");
+    println!("--- | --- | --- | --- | --- | --- | ---");
+    for slow in Slow::ALL {
+        for n in [128, 256, 512] {
+            let file = slow.recording(n);
+            let (name, events) = (slow.name(), (file.len() - 8) / 4);
+            let t = once(&file, text, out);
+            let (plain, proved) = (ms(t.plain), ms(t.proved));
+            let (pairs, races, times) = (t.pairs, t.races, plain / proved);
+            println!(
+                "{name} | {events} | {pairs} | {races} | {plain:.1} | {proved:.2} | {times:.0}"
+            );
+        }
+    }
+    println!();
+}
+
 fn main() {
     let mut text = Vec::new();
     let mut out = vec![0; 1 << 28];
@@ -188,7 +222,9 @@ fn main() {
     for (n, all) in growth {
         println!("{n} | {}", all.row());
     }
-    println!("\nall of question 2's answers for a recording, on average\n");
+    println!();
+    slow_table(&mut text, &mut out);
+    println!("all of question 2's answers for a recording, on average\n");
     println!("events | reads | plain Rust, µs | proved, µs | ratio");
     println!("--- | --- | --- | --- | ---");
     println!("{}", observed_writes_row(512));

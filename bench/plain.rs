@@ -1,7 +1,7 @@
 //! The nightly report as straightforward Rust: the recording's events in a vector, links built once, then for
 //! each conflicting pair the cone, its split into the moved thread's events and the others', and a search with a
-//! table of dead places. And question 2 for all events at once. Nothing is shared with the proved code; what the two
-//! sides give is compared.
+//! table of dead places, as the proved code had it before it had staircases. And question 2 for all events at once.
+//! Nothing is shared with the proved code; what the two sides give is compared.
 
 const READ: u8 = 1;
 const WRITE: u8 = 2;

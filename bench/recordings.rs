@@ -1,5 +1,26 @@
 //! Seeded recordings of a given length: well-formed, by so many threads, with few or many cells and sparse or
-//! dense locks, or dense ones that are taken again while held.
+//! dense locks, or dense ones that are taken again while held. And three kinds that a search is slow on.
+
+const READ: u8 = 1;
+const WRITE: u8 = 2;
+const ACQUIRE: u8 = 3;
+const RELEASE: u8 = 4;
+
+/// Thread, kind, object.
+type Event = (u8, u8, u8);
+
+/// The file of some events, without a preamble.
+fn file_of(events: &[Event]) -> Vec<u8> {
+    let n = events.len();
+    let mut file = Vec::new();
+    for &(thread, kind, object) in events {
+        file.extend_from_slice(&[thread, kind, object, 0]);
+    }
+    file.extend_from_slice(&(8 + 4 * n as u32).to_le_bytes());
+    file.extend_from_slice(&(n as u16).to_le_bytes());
+    file.extend_from_slice(&[0x50, 0x4C]);
+    file
+}
 
 /// xorshift64*: the same numbers on every machine.
 pub struct Random(u64);
@@ -79,36 +100,108 @@ impl Family {
     pub fn recording(self, n: usize, seed: u64) -> Vec<u8> {
         let mut r = Random::new(seed);
         let mut holds = vec![None; self.threads as usize];
-        let mut file = Vec::new();
+        let mut events = Vec::new();
         for _ in 0..n {
             let thread = r.below(self.threads);
             let (kind, object) = self.step(&mut r, &mut holds, thread as usize);
-            file.extend_from_slice(&[thread as u8, kind, object as u8, 0]);
+            events.push((thread as u8, kind, object as u8));
         }
-        file.extend_from_slice(&(8 + 4 * n as u32).to_le_bytes());
-        file.extend_from_slice(&(n as u16).to_le_bytes());
-        file.extend_from_slice(&[0x50, 0x4C]);
-        file
+        file_of(&events)
     }
 
     fn step(self, r: &mut Random, holds: &mut [Hold], thread: usize) -> (u8, u64) {
         if let Some((lock, depth)) = holds[thread] {
             if r.below(4) == 0 {
                 holds[thread] = (depth > 1).then_some((lock, depth - 1));
-                return (4, lock);
+                return (RELEASE, lock);
             }
             if self.locks == Locks::Deep && r.below(4) == 0 {
                 holds[thread] = Some((lock, depth + 1));
-                return (3, lock);
+                return (ACQUIRE, lock);
             }
         } else if r.below(if self.locks == Locks::Sparse { 16 } else { 3 }) == 0 {
             let lock = r.below(4);
             if !holds.iter().flatten().any(|(held, _)| *held == lock) {
                 holds[thread] = Some((lock, 1));
-                return (3, lock);
+                return (ACQUIRE, lock);
             }
         }
-        let kind = if r.below(3) == 0 { 2 } else { 1 };
+        let kind = if r.below(3) == 0 { WRITE } else { READ };
         (kind, r.below(self.cells))
     }
+}
+
+/// What a search through the places of two lists is slow on. The first two are correct programs by two threads:
+/// nothing is reported.
+#[derive(Clone, Copy)]
+pub enum Slow {
+    /// Each thread writes cells of its own, and then one shared cell in many short sections.
+    Sections,
+    /// Each thread writes cells of its own, and then one shared cell many times in one long section.
+    Long,
+    /// Eight threads take their locks hand over hand, so that a section in the cone brings in the next.
+    Chain,
+}
+
+impl Slow {
+    pub const ALL: [Slow; 3] = [Slow::Sections, Slow::Long, Slow::Chain];
+
+    pub fn name(self) -> &'static str {
+        match self {
+            Slow::Sections => "sections",
+            Slow::Long => "long",
+            Slow::Chain => "chain",
+        }
+    }
+
+    /// A recording of n events, or a few fewer.
+    pub fn recording(self, n: usize) -> Vec<u8> {
+        let events = match self {
+            Slow::Sections => by_two(n / 4, sections((n / 2 - n / 4) / 3)),
+            Slow::Long => by_two((n / 2 - 1) / 2, long((n / 2 - 2) / 2)),
+            Slow::Chain => chain(n / 6),
+        };
+        file_of(&events)
+    }
+}
+
+/// Two threads, one after the other: some writes of cells of its own, then a shared part.
+fn by_two(own: usize, shared: Vec<u8>) -> Vec<Event> {
+    let mut events = Vec::new();
+    for thread in 0..2 {
+        let cell = |i| 1 + ((2 * i + thread as usize) % 200) as u8;
+        events.extend((0..own).map(|i| (thread, WRITE, cell(i))));
+        events.extend(shared.iter().map(|&kind| (thread, kind, 0)));
+    }
+    events
+}
+
+fn sections(count: usize) -> Vec<u8> {
+    [ACQUIRE, WRITE, RELEASE].repeat(count)
+}
+
+fn long(writes: usize) -> Vec<u8> {
+    let mut kinds = vec![ACQUIRE];
+    kinds.resize(1 + writes, WRITE);
+    kinds.push(RELEASE);
+    kinds
+}
+
+fn chain(steps: usize) -> Vec<Event> {
+    let mut events = Vec::new();
+    for step in 0..steps {
+        let thread = step as u8 % 8;
+        let (this, next) = (step as u8 % 50, (step + 1) as u8 % 50);
+        let (written, read) = (100 + step as u8 % 3, 100 + (step + 1) as u8 % 3);
+        let kinds = [
+            (ACQUIRE, this),
+            (ACQUIRE, next),
+            (WRITE, written),
+            (RELEASE, this),
+            (READ, read),
+            (RELEASE, next),
+        ];
+        events.extend(kinds.map(|(kind, object)| (thread, kind, object)));
+    }
+    events
 }
