@@ -6,9 +6,9 @@ use mathlib.Core.Path.{_≡_, refl, sym, _∙_, ap}
 use mathlib.Core.Logic.{_≢_, _⊎_, inl, inr, ⊎-elim}
 use mathlib.Core.Bool.{Bool, true, false, _&&_, not}
 use mathlib.Core.List.{List, _∷_, reverse, List·Memᴰ·head, List·Memᴰ·tail, List·Memᴰ·not-nil}
-use lib.ListN.{length, getD, set, replicate, length-replicate, getD-replicate}
+use lib.ListN.{length, getD, replicate, length-replicate, getD-replicate}
 use lib.Dec.{eqb, ltb}
-use borrow.Author.Tests.{eqb-true, eqb-false, eq-eqb, ne-eqb, ltb-true, ltb-false, lt-ltb, le-ltb}
+use borrow.Author.Tests.{eqb-true, eqb-false, eq-eqb, ne-eqb, ltb-true, ltb-false}
 use Rattle.model.specs.Trace.{Trace, Valid, write, acquire, threadOf, kindOf, objectOf}
 use Rattle.model.specs.Lists.{_∈_, nearest, passed, listed, anyIn}
 use Rattle.model.specs.Good.{maxObject}
@@ -41,13 +41,9 @@ module _ (t : Trace) (v : ℕ) (ends last : List ℕ) (q : ℕ) (eq : q ≡ kind
   section-none ne = rw (ne-eqb (kindOf t v) acquire (λ z. ne (eq ∙ z)))
 
   module _ (i : q ≡ acquire) (x : ℕ) (ex : x ≡ objectOf t v) where
-    pub section-more : getD last x 0 < at ends v → set last x (at ends v) ≡ withSection t v ends last
-    unfolding withSection raisedTo
-    section-more h = let d : kindOf t v ≡ acquire = sym eq ∙ i in rw (eq-eqb _ _ d, ← ex, lt-ltb (at last x) (at ends v) h)
-
-    pub section-same : at ends v ≤ getD last x 0 → last ≡ withSection t v ends last
-    unfolding withSection raisedTo
-    section-same h = let d : kindOf t v ≡ acquire = sym eq ∙ i in rw (eq-eqb _ _ d, ← ex, le-ltb (at last x) (at ends v) h)
+    pub section-more : {last′ : List ℕ} → last′ ≡ raisedTo last x (at ends v) → last′ ≡ withSection t v ends last
+    unfolding withSection
+    section-more e = let d : kindOf t v ≡ acquire = sym eq ∙ i in e ∙ rw (eq-eqb _ _ d, ← ex) refl
 
 -- ---- `note_sections`
 

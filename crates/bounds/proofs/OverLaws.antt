@@ -14,7 +14,7 @@ use Rattle.model.specs.Trace.{Trace, Valid, write, kindOf, objectOf, does}
 use Rattle.model.specs.Lists.{_∈_, nearest, passed}
 use Rattle.model.specs.Observed.{lastWrite}
 use Rattle.model.specs.Good.{maxObject}
-use Rattle.model.proofs.Tests.{by-cases, in-cons, clash, both, true-both, false-does, true-does, not-on}
+use Rattle.model.proofs.Tests.{by-cases, in-cons, clash, both, true-both}
 use Rattle.model.proofs.Lists.{getD-mem, reverse-mem, mem-reverse, nearest-mem, nearest-passes, any-mem, mem-any}
 use Rattle.model.proofs.Passed.{passed-suc, passed-all, passed-in, passed-below, below-passed, passed-last}
 use Rattle.decision.specs.Rounds.{isObserved}
@@ -23,11 +23,11 @@ use Rattle.decision.proofs.IntervalTests.{observed-true, true-observed}
 use Rattle.stairs.specs.Stairs.{at}
 use Rattle.table.specs.Table.{trace}
 use Rattle.table.specs.Links.{observedBy}
-use Rattle.table.specs.Entries.{Entries}
+use Rattle.table.specs.Entries.{Entries, withWrite}
 use Rattle.table.proofs.LinkFacts.{reads-observed, observed-reads}
-use Rattle.table.proofs.EntryLaws.{entries-new, entries-same, entries-put}
+use Rattle.table.proofs.EntryLaws.{entries-new, write-known}
 use Rattle.bounds.specs.Bounds.{isOwn, Last, Needs, Given, Needed}
-use Rattle.bounds.specs.Steps.{raisedTo, withWrite, isOther, withOver, Over, First, FirstTwo}
+use Rattle.bounds.specs.Steps.{raisedTo, isOther, withOver, Over, First, FirstTwo}
 use Rattle.bounds.proofs.FirstLaws.{own-true, observed-few}
 
 -- ---- the last of two kinds
@@ -162,14 +162,7 @@ module _ {s : List ℕ} {m : ℕ} {P Q need₀ : List ℕ} {i : ℕ} {last need 
     step = passed-suc P i h ∙ ap (λ (x : ℕ). x ∷ passed P i) (sym ee)
 
     knows-more : Entries (λ x. lastWrite t x (e ∷ passed P i)) maxObject (withWrite t e last)
-    unfolding withWrite
-    knows-more =
-        let x = objectOf t e in
-        by-cases (eqb (kindOf t e) write)
-        (λ d.
-        let k : kindOf t e ≡ write = eqb-true _ _ d in
-        rw d (entries-put (p .knows) (λ y. lastWrite t y (e ∷ passed P i)) x e (p .given .links .good .object-limit e overs-valid) (rw (true-does t write x e k refl)) (λ y ne. rw (not-on t write y e ne))))
-        (λ d. rw d (entries-same (p .knows) (λ y. lastWrite t y (e ∷ passed P i)) (λ y. rw (false-does t write y e (eqb-false _ _ d)))))
+    knows-more = write-known t e (passed P i) (p .given .links .good) overs-valid (p .knows)
 
     -- what e adds for the write k of Q
     abbrev New : ℕ → ℕ → Type 0

@@ -64,10 +64,6 @@ First t P p k = (isObserved t k p ≡ true) ⊎ (isOverwriting t P p k ≡ true)
 
 -- ---- writes of P, and reads of P behind them
 
--- what event e makes of the last writes: a write is its cell's last
-unfoldable pub withWrite : Trace → ℕ → List ℕ → List ℕ
-withWrite t e last = cond (eqb (kindOf t e) write) (set last (objectOf t e) e) last
-
 -- w is an event, not of thread m
 unfoldable pub isOther : Trace → ℕ → ℕ → Bool
 isOther t m w = not (eqb w 0) && not (isOwn t m w)

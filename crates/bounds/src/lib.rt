@@ -7,9 +7,10 @@ ghost use Prim.Native.Nat.{_+_, _≤_, _<_};
 ghost use lib.ListN.{length, replicate};
 ghost use Rattle.model.specs.Trace.{Valid};
 ghost use Rattle.table.specs.Table.{trace, Linked};
+ghost use Rattle.table.specs.Entries.{withWrite};
 ghost use Rattle.model.specs.Good.{maxObject};
 ghost use Rattle.bounds.specs.Bounds.{isOwn, Given, Ended, Needed, Bound, Covers};
-ghost use Rattle.bounds.specs.Steps.{withEnd, raisedTo, isOutside, withRead, Reading, Read, firstBound, First, withWrite, isOther, withOver, FirstTwo, withSection, Sections, isOpenIn, withOpen};
+ghost use Rattle.bounds.specs.Steps.{withEnd, raisedTo, isOutside, withRead, Reading, Read, firstBound, First, isOther, withOver, FirstTwo, withSection, Sections, isOpenIn, withOpen};
 
 // Is w, which may be 0, an event of thread m?
 fn is_own(table: &[u16], m: u8, w: usize) -> bool
@@ -192,10 +193,7 @@ fn note_section(table: &[u16], v: usize, ends: &[u16], last: &mut [u16; Event::O
         return;
     }
     let x = table::object_place(table, v);
-    let end = ends[v];
-    if last[x] < end {
-        last[x] = end;
-    }
+    raise(last, x, ends[v]);
 }
 
 // The last end of p's sections on each lock.

@@ -4,16 +4,14 @@ use mathlib.Core.Path.{_≡_, refl, sym, _∙_}
 use mathlib.Core.Logic.{_≢_, _↔_}
 use mathlib.Core.List.{List}
 use lib.ListN.{getD, replicate}
-use lib.Dec.{eqb}
-use borrow.Author.Tests.{eqb-true, eqb-false}
-use Rattle.model.specs.Trace.{Trace, Valid, write, kindOf, objectOf, does}
-use Rattle.model.specs.Lists.{nearest}
-use Rattle.model.specs.Observed.{LastBefore, Unwritten}
+use Rattle.model.specs.Trace.{Trace, Valid}
+use Rattle.model.specs.Lists.{before}
+use Rattle.model.specs.Observed.{LastBefore, Unwritten, lastWrite}
 use Rattle.model.specs.Good.{Good, maxObject}
-use Rattle.model.proofs.Tests.{by-cases, true-does, false-does, not-on}
 use Rattle.model.proofs.ObservedExact.{last-write-exactly, unwritten-exactly}
-use Rattle.table.proofs.EntryLaws.{entries-new, entries-same, entries-put}
-use Rattle.opening.specs.Knows.{LastWrites, withWrite}
+use Rattle.table.specs.Entries.{withWrite}
+use Rattle.table.proofs.EntryLaws.{entries-new, write-known}
+use Rattle.opening.specs.Knows.{LastWrites}
 use Rattle.opening.proofs.KnowsLaws.{known-next}
 
 -- it knows it before the first event
@@ -22,13 +20,7 @@ knows-first t = entries-new _ maxObject (λ x. refl)
 
 -- a step keeps it: what is known before event k is known before the next
 pub knows-kept : {t : Trace} {k : ℕ} → Good t → Valid t k → {list : List ℕ} → LastWrites t k list → LastWrites t (k + 1) (withWrite t k list)
-unfolding withWrite
-knows-kept {t} {k} g v p =
-    let x = objectOf t k in
-    known-next g v (λ y h. nearest (does t write y) h)
-    (by-cases (eqb (kindOf t k) write)
-    (λ e. rw e (entries-put p _ x k (g .object-limit k v) (rw (true-does t write x k (eqb-true _ _ e) refl)) (λ y ne. rw (not-on t write y k ne))))
-    (λ e. rw e (entries-same p _ (λ y. rw (false-does t write y k (eqb-false _ _ e))))))
+knows-kept {t} {k} g v p = known-next g v (lastWrite t) (write-known t k (before k) g v p)
 
 -- in words: a write is the cell's last before event k, and 0 is for a cell that is not written before it
 module _ {t : Trace} {k : ℕ} {list : List ℕ} (p : LastWrites t k list) (x : ℕ) (l : x ≤ maxObject) where

@@ -21,8 +21,9 @@ use Rattle.model.proofs.SectionsExact.{own-depth-lock, outermost-acquires, last
 use Rattle.model.proofs.MatchingExact.{matching-inner}
 use Rattle.table.specs.Links.{previous, observedBy, lockDepth, releaseOf, began}
 use Rattle.table.specs.Table.{word, trace, withWord}
+use Rattle.table.specs.Entries.{withWrite}
 use Rattle.opening.specs.Filling.{Columns, Turn, Stepped}
-use Rattle.opening.specs.Knows.{LastEvents, LastWrites, withWrite, Depths, NextEnds, LastTaken, accessBegan}
+use Rattle.opening.specs.Knows.{LastEvents, LastWrites, Depths, NextEnds, LastTaken, accessBegan}
 use Rattle.opening.proofs.KnowsLaws.{events-step, depths-put, depths-same, ends-put, ends-same, matching-next, taken-put, taken-same}
 use Rattle.opening.proofs.KnowsExact.{knows-kept}
 

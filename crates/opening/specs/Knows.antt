@@ -2,7 +2,6 @@
 use Prim.Native.Nat.{ℕ}
 use mathlib.Core.Bool.{Bool, cond, _&&_}
 use mathlib.Core.List.{List}
-use lib.ListN.{set}
 use lib.Dec.{eqb, ltb}
 use Rattle.model.specs.Trace.{Trace, write, kindOf, objectOf}
 use Rattle.model.specs.Lists.{before, numbers, nearest}
@@ -19,10 +18,6 @@ LastEvents t k list = Entries (lastOf t (before k)) maxThread list
 -- before event k, that is after the one before it, the list has every cell's last write so far; 0 where there is none
 abbrev pub LastWrites : Trace → ℕ → List ℕ → Type 0
 LastWrites t k list = Entries (λ x. lastWrite t x (before k)) maxObject list
-
--- what event k makes of that list: a write is its cell's last
-unfoldable pub withWrite : Trace → ℕ → List ℕ → List ℕ
-withWrite t k list = cond (eqb (kindOf t k) write) (set list (objectOf t k) k) list
 
 -- before event k the list has how deep each lock is held
 abbrev pub Depths : Trace → ℕ → List ℕ → Type 0

@@ -14,9 +14,10 @@ use Rattle.table.specs.Table.{trace}
 use Rattle.table.specs.Links.{began}
 use Rattle.stairs.specs.Stairs.{at, slotOf, slots, Rule, Solution, Ready}
 use Rattle.stairs.specs.Passes.{Moved, Upto, Reached, Met, Begun, nowhere, outside, asked, Pulled, stands, lifts, total, Below, Passed}
+use Rattle.table.proofs.BeganFacts.{began-valid}
 use Rattle.stairs.proofs.PlaceLaws.{equal-or-not, at-set, set-grows, total-set, place-up, place-order}
 use Rattle.stairs.proofs.SlotLaws.{upto-start, upto-further}
-use Rattle.stairs.proofs.RuleLaws.{began-valid, asked-none, asked-some, raise-below, rest-rule}
+use Rattle.stairs.proofs.RuleLaws.{asked-none, asked-some, raise-below, rest-rule}
 
 -- the events of Q before place j are at rest: each needs no more than what passed, event n, and their rules hold
 pub record Rested (t : Trace) (m : ℕ) (P Q ends : List ℕ) (n j : ℕ) (need : List ℕ) : Type 0 where

@@ -1,38 +1,23 @@
 -- Where the interval of an event of Q begins, and its rule: what its slot is reached up to is needed by every solution, and is all that the rule asks.
 use Prim.Native.Nat.{ℕ, _≤_, _<_}
 use native.Mathlib.Omega.{arith}
-use mathlib.Core.Path.{_≡_, refl, sym, ap, _∙_}
+use mathlib.Core.Path.{_≡_, sym, ap, _∙_}
 use mathlib.Core.Logic.{_≢_}
 use mathlib.Core.Bool.{Bool, true}
 use mathlib.Core.List.{List}
 use lib.ListN.{set}
-use lib.Dec.{eqb, ltb}
+use lib.Dec.{ltb}
 use borrow.Author.Tests.{eq-eqb, ne-eqb, ltb-true, ltb-false}
-use Rattle.model.specs.Trace.{Trace, Valid, read, write, threadOf, kindOf}
-use Rattle.model.specs.Lists.{before, nearest}
-use Rattle.model.specs.Observed.{observed}
-use Rattle.model.specs.Sections.{isOutermost, isLast}
+use Rattle.model.specs.Trace.{Trace, Valid, threadOf}
 use Rattle.model.proofs.Tests.{by-cases}
-use Rattle.model.proofs.Lists.{nearest-mem, mem-before, getD-mem, mem-place}
+use Rattle.model.proofs.Lists.{getD-mem, mem-place}
 use Rattle.table.specs.Links.{began}
+use Rattle.table.proofs.BeganFacts.{began-valid}
 use Rattle.stairs.specs.Stairs.{at, slotOf, InOthers, Rule}
 use Rattle.stairs.specs.Passes.{Upto, Reached, Begun, nowhere, outside, asked, Pulled, stands, lifts}
 use Rattle.stairs.proofs.PlaceLaws.{equal-or-not}
 
 -- ---- where an interval begins
-
-nearest-valid : (t : Trace) (k : ℕ) (p : ℕ → Bool) → Valid t k → nearest p (before k) ≢ 0 → Valid t (nearest p (before k))
-nearest-valid t k p v n =
-    let a = mem-before k (nearest p (before k)) (nearest-mem p (before k) n) in
-    let b = v .bounded in record { positive = a .0; bounded = let c = a .1 in omega arith }
-
-pub began-valid : (t : Trace) (k : ℕ) → Valid t k → began t k ≢ 0 → Valid t (began t k)
-unfolding began observed
-began-valid t k v =
-    by-cases (eqb (kindOf t k) write) (λ a. rw a (λ n. v)) (λ a.
-    by-cases (eqb (kindOf t k) read) (λ b. rw (a, b) (λ n. nearest-valid t k _ v n)) (λ b.
-    by-cases (isOutermost t k) (λ c. rw (a, b, c) (λ n. v)) (λ c.
-    by-cases (isLast t k) (λ d. rw (a, b, c, d) (λ n. nearest-valid t k _ v n)) (λ d. rw (a, b, c, d) (λ n. absurd (n refl))))))
 
 module _ (t : Trace) (m k o : ℕ) (e : o ≡ began t k) where
   pub begun-valid : Valid t k → o ≢ 0 → Valid t o

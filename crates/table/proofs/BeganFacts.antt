@@ -14,6 +14,7 @@ use Rattle.model.specs.Sections.{ownDepth, isOutermost, isLast}
 use Rattle.model.specs.Cone.{givesBack, matching}
 use Rattle.model.specs.Matching.{HoldEnd, freed}
 use Rattle.model.proofs.Tests.{by-cases, both, true-both, either-true, true-does, false-does}
+use Rattle.model.proofs.Lists.{nearest-passes}
 use Rattle.model.proofs.SectionsExact.{outermost-acquires, last-releases, own-depth-lock}
 use Rattle.model.proofs.MatchingExact.{matching-exactly, matching-inner, matching-valid}
 use Rattle.model.proofs.ObservedExact.{observed-write-exactly}
@@ -21,7 +22,7 @@ use Rattle.decision.specs.Stairs.{isOpening, isWithin}
 use Rattle.decision.proofs.Holds.{matching-ends, holding, holding-on, sections-apart}
 use Rattle.decision.proofs.IntervalTests.{true-within, within-true, true-opening}
 use Rattle.table.specs.Links.{lastTaken, began}
-use Rattle.table.proofs.LinkFacts.{nearest-true, nearest-less, nearest-last}
+use Rattle.table.proofs.LinkFacts.{nearest-less, nearest-last}
 
 module _ (t : Trace) where
   pub opening-cases : (k : ℕ) → isOpening t k ≡ true → (kindOf t k ≡ write) ⊎ (isOutermost t k ≡ true)
@@ -64,7 +65,7 @@ module _ (t : Trace) where
   taken-true : (x : ℕ) (k : ℕ) → lastTaken t x (before k) ≢ 0 → (isOutermost t (lastTaken t x (before k)) ≡ true) × (objectOf t (lastTaken t x (before k)) ≡ x)
   taken-true x k ne =
       let p : ℕ → Bool = λ j. isOutermost t j && eqb (objectOf t j) x in
-      let z = both (isOutermost t (lastTaken t x (before k))) _ (nearest-true p (before k) ne) in
+      let z = both (isOutermost t (lastTaken t x (before k))) _ (nearest-passes p (before k) ne) in
       (z .0, eqb-true _ _ (z .1))
 
   -- it begins no later
@@ -80,6 +81,9 @@ module _ (t : Trace) where
       (λ a. let e = began-last k a in let l = nearest-less (λ j. isOutermost t j && eqb (objectOf t j) (objectOf t k)) k h in omega arith)
       r)
       (began-cases k (eqb-false _ _ z)))
+
+  pub began-valid : (k : ℕ) → Valid t k → began t k ≢ 0 → Valid t (began t k)
+  began-valid k v ne = let l = began-le k (v .positive) in let b = v .bounded in record { positive = omega arith; bounded = omega arith }
 
   -- and what begins it begins an interval
   pub began-opening : (k : ℕ) → began t k ≢ 0 → isOpening t (began t k) ≡ true
@@ -142,7 +146,7 @@ module _ (t : Trace) where
         (λ o.
         let r = matching t a in
         let e : matching t a ≡ nearest (λ j. givesBack t a j) (numbers t) = rw o in
-        let g : givesBack t a r ≡ true = rw e (nearest-true (λ j. givesBack t a j) (numbers t) (λ z. ne (e ∙ z))) in
+        let g : givesBack t a r ≡ true = rw e (nearest-passes (λ j. givesBack t a j) (numbers t) (λ z. ne (e ∙ z))) in
         let p = both (ltb a r) _ g in
         let q = both (isLast t r) _ (p .1) in
         let s = both (eqb (objectOf t r) (objectOf t a)) _ (q .1) in

@@ -4,7 +4,6 @@ use native.Mathlib.Omega.{arith}
 use mathlib.Core.Path.{_≡_, refl}
 use mathlib.Core.Logic.{_≢_}
 use mathlib.Core.Bool.{Bool, true}
-use mathlib.Core.List.{List, [], _∷_}
 use lib.ListN.{length}
 use lib.Dec.{eqb}
 use borrow.Author.Tests.{eqb-true, eqb-false, eq-eqb, ne-eqb, ltb-true}
@@ -14,7 +13,7 @@ use Rattle.model.specs.Observed.{observed}
 use Rattle.model.specs.Sections.{isOutermost, isLast}
 use Rattle.model.specs.Cone.{Earlier, givesBack, matching}
 use Rattle.model.proofs.Tests.{by-cases, clash, both, just-true, true-just}
-use Rattle.model.proofs.Lists.{nearest-mem, mem-before}
+use Rattle.model.proofs.Lists.{nearest-mem, nearest-passes, mem-before}
 use Rattle.model.proofs.SectionsExact.{outermost-acquires, last-releases}
 use Rattle.model.proofs.MatchingExact.{matching-valid}
 use Rattle.table.specs.Links.{previous, observedBy, releaseOf}
@@ -22,10 +21,6 @@ use Rattle.table.specs.Links.{previous, observedBy, releaseOf}
 -- ---- the nearest event
 
 module _ (p : ℕ → Bool) where
-  pub nearest-true : (l : List ℕ) → nearest p l ≢ 0 → p (nearest p l) ≡ true
-  nearest-true [] ne = absurd (ne refl)
-  nearest-true (k ∷ l) ne = by-cases (p k) (λ e. rw e e) (λ e. rw e (nearest-true l (rw e at ne)))
-
   pub nearest-less : (k : ℕ) → 1 ≤ k → nearest p (before k) < k
   nearest-less k h =
       by-cases (eqb (nearest p (before k)) 0)
@@ -51,7 +46,7 @@ module _ (t : Trace) where
   previous-earlier k ne =
       let p : ℕ → Bool = λ j. just (threadOf t k) (threadOf t j) in
       let x = mem-before k (previous t k) (nearest-mem p (before k) ne) in
-      record { first = x .0; less = x .1; thread = just-true (threadOf t k) _ (nearest-true p (before k) ne) }
+      record { first = x .0; less = x .1; thread = just-true (threadOf t k) _ (nearest-passes p (before k) ne) }
 
   -- no earlier event of the thread stands behind it
   pub previous-last : (j k : ℕ) → Earlier t j k → j ≤ previous t k
@@ -81,7 +76,7 @@ module _ (t : Trace) where
   unfolding matching givesBack
   matching-acquires k ne =
       by-cases (isOutermost t k)
-      (λ e. (outermost-acquires t k e, rw e (ltb-true k _ (both _ _ (nearest-true (λ j. givesBack t k j) (numbers t) (rw e at ne)) .0))))
+      (λ e. (outermost-acquires t k e, rw e (ltb-true k _ (both _ _ (nearest-passes (λ j. givesBack t k j) (numbers t) (rw e at ne)) .0))))
       (λ e. let z = rw e at ne in absurd (z refl))
 
   pub acquires-release : (k : ℕ) → kindOf t k ≡ acquire → releaseOf t k ≡ matching t k

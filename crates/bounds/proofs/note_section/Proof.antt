@@ -1,5 +1,5 @@
 use borrow.Author.Needs.{needs}
-use Rattle.bounds.proofs.OpenLaws.{section-none, section-more, section-same}
+use Rattle.bounds.proofs.OpenLaws.{section-none, section-more}
 use Rattle.bounds.proofs.note_section.Statement.{statement}
 use Rattle.bounds.proofs.note_section.Tie as tie
 
@@ -7,4 +7,4 @@ pub note-section-spec : {M : Type 1} → statement M
 note-section-spec =
     tie.close
     (tie.spec
-    (λ c κs. search needs) (λ c. search (section-none, needs)) (λ c κs. search needs) (λ c. search needs) (λ c. search needs) (λ c. search needs) (λ c. search needs) (λ c. search needs) (λ c. search needs) (λ c. search (section-more, needs)) (λ c. search (section-same, needs)))
+    (λ c κs. search needs) (λ c. search (section-none, needs)) (λ c κs. search needs) (λ c. search needs) (λ c. search needs) (λ c κs. search needs) (λ c. search (section-more, needs)))
