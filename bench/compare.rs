@@ -30,7 +30,7 @@ fn compare(program: &str, file: &[u8], name: &str) {
 
 fn main() {
     let program = std::env::args().nth(1).expect("use: compare PROGRAM");
-    for family in Family::all().into_iter().chain(Family::deep()) {
+    for family in [Family::all(), Family::deep(), Family::forks()].concat() {
         for n in [128, 512] {
             let name = format!("{n} events, {}", family.name());
             compare(&program, &family.recording(n, 1), &name);

@@ -217,6 +217,8 @@ fn main() {
     }
     println!("512 events, locks taken again while held\n");
     table(Family::deep(), 512, &mut text, &mut out);
+    println!("512 events, forks and joins\n");
+    table(Family::forks(), 512, &mut text, &mut out);
     println!("events | {COLUMNS}");
     println!("--- | --- | --- | --- | --- | --- | ---");
     for (n, all) in growth {

@@ -7,6 +7,8 @@ const READ: u8 = 1;
 const WRITE: u8 = 2;
 const ACQUIRE: u8 = 3;
 const RELEASE: u8 = 4;
+const FORK: u8 = 5;
+const JOIN: u8 = 6;
 
 #[derive(Clone, Copy)]
 struct Event {
@@ -51,29 +53,45 @@ fn parse(file: &[u8]) -> Option<Vec<Event>> {
 fn well_formed(events: &[Event]) -> bool {
     // who holds each lock, and how deep
     let mut holds: [Option<(u8, usize)>; 256] = [None; 256];
+    let mut begun = [false; 16];
+    let mut forked = [false; 16];
+    let mut joined = [false; 16];
     for e in &events[1..] {
-        if e.kind == 0 || e.kind > 4 || e.thread > 15 || e.object > 255 {
+        let most = if e.kind >= FORK { 15 } else { 255 };
+        if e.kind == 0 || e.kind > 6 || e.thread > 15 || e.object > most {
             return false;
         }
-        let lock = e.object as usize;
-        match (e.kind, holds[lock]) {
-            (ACQUIRE, None) => holds[lock] = Some((e.thread, 1)),
-            (ACQUIRE, Some((t, depth))) if t == e.thread => holds[lock] = Some((t, depth + 1)),
-            (RELEASE, Some((t, 1))) if t == e.thread => holds[lock] = None,
-            (RELEASE, Some((t, depth))) if t == e.thread => holds[lock] = Some((t, depth - 1)),
+        let thread = e.thread as usize;
+        if joined[thread] {
+            return false;
+        }
+        begun[thread] = true;
+        let object = e.object as usize;
+        match (e.kind, holds[object]) {
+            (ACQUIRE, None) => holds[object] = Some((e.thread, 1)),
+            (ACQUIRE, Some((t, depth))) if t == e.thread => holds[object] = Some((t, depth + 1)),
+            (RELEASE, Some((t, 1))) if t == e.thread => holds[object] = None,
+            (RELEASE, Some((t, depth))) if t == e.thread => holds[object] = Some((t, depth - 1)),
             (ACQUIRE | RELEASE, _) => return false,
+            (FORK | JOIN, _) if object == thread => return false,
+            (FORK, _) if forked[object] || begun[object] => return false,
+            (FORK, _) => forked[object] = true,
+            (JOIN, _) => joined[object] = true,
             _ => {}
         }
     }
     true
 }
 
-/// For each event the one before it in its thread, a read's observed write, an outermost acquire's last release; 0 for
+/// For each event the one before it in its thread or, for the thread's first, the thread's fork, and that fork alone; a
+/// read's observed write; an outermost acquire's last release; the last event of the thread that a join joins; 0 for
 /// none. `counts`: is it an outermost acquire or a last release?
 struct Links {
     previous: Vec<usize>,
+    fork: Vec<usize>,
     observed: Vec<usize>,
     released: Vec<usize>,
+    joined: Vec<usize>,
     counts: Vec<bool>,
 }
 
@@ -81,19 +99,27 @@ fn links(events: &[Event]) -> Links {
     let places = events.len();
     let mut l = Links {
         previous: vec![0; places],
+        fork: vec![0; places],
         observed: vec![0; places],
         released: vec![0; places],
+        joined: vec![0; places],
         counts: vec![false; places],
     };
     let mut last_of_thread = [0; 16];
+    let mut fork_of_thread = [0; 16];
     let mut last_write = [0; 256];
     let mut acquired = [0; 256];
     let mut depth = [0; 256];
     for k in 1..places {
         let e = events[k];
+        let thread = e.thread as usize;
         let object = e.object as usize;
-        l.previous[k] = last_of_thread[e.thread as usize];
-        last_of_thread[e.thread as usize] = k;
+        l.previous[k] = last_of_thread[thread];
+        if l.previous[k] == 0 {
+            l.fork[k] = fork_of_thread[thread];
+            l.previous[k] = l.fork[k];
+        }
+        last_of_thread[thread] = k;
         match e.kind {
             READ => l.observed[k] = last_write[object],
             WRITE => last_write[object] = k,
@@ -104,6 +130,8 @@ fn links(events: &[Event]) -> Links {
                 }
                 depth[object] += 1;
             }
+            FORK => fork_of_thread[object] = k,
+            JOIN => l.joined[k] = last_of_thread[object],
             _ => {
                 depth[object] -= 1;
                 if depth[object] == 0 {
@@ -158,6 +186,9 @@ fn cone(events: &[Event], l: &Links, a: usize, b: usize) -> Vec<bool> {
         inside[k] = true;
         waiting.push(l.previous[k]);
         waiting.push(l.observed[k]);
+        if events[k].kind == JOIN {
+            waiting.push(l.joined[k]);
+        }
         let thread = events[k].thread;
         if thread != events[a].thread && thread != events[b].thread {
             waiting.push(l.released[k]);
@@ -169,8 +200,7 @@ fn cone(events: &[Event], l: &Links, a: usize, b: usize) -> Vec<bool> {
 /// The search on the grid: `p` has the moved thread's events, `q` the others'.
 struct Search<'a> {
     events: &'a [Event],
-    observed: &'a [usize],
-    counts: &'a [bool],
+    links: &'a Links,
     moved: u8,
     p: Vec<usize>,
     q: Vec<usize>,
@@ -187,14 +217,19 @@ impl Search<'_> {
         let last = passed
             .iter()
             .rev()
-            .find(|&&k| self.counts[k] && self.events[k].object == lock);
+            .find(|&&k| self.links.counts[k] && self.events[k].object == lock);
         last.is_none_or(|&k| self.events[k].kind == RELEASE)
+    }
+
+    /// Is the event w in the list to which k does not belong?
+    fn in_other(&self, w: usize, k: usize) -> bool {
+        (self.events[w].thread == self.moved) != (self.events[k].thread == self.moved)
     }
 
     /// Did the read k observe a write that is in the list to which k does not belong?
     fn sees_other(&self, k: usize) -> bool {
-        let w = self.observed[k];
-        w != 0 && (self.events[w].thread == self.moved) != (self.events[k].thread == self.moved)
+        let w = self.links.observed[k];
+        w != 0 && self.in_other(w, k)
     }
 
     /// The reads of a cell in what is ahead, up to the next write of it.
@@ -214,23 +249,28 @@ impl Search<'_> {
     fn may_step(&self, own: &[usize], i: usize, other: &[usize], j: usize) -> bool {
         let k = own[i];
         let object = self.events[k].object;
+        let missing = |w| w != 0 && self.in_other(w, k) && !other[..j].contains(&w);
+        if missing(self.links.fork[k]) {
+            return false;
+        }
         match self.events[k].kind {
             READ => {
                 let passed = || other[..j].iter().rev();
                 let last = || passed().find(|&&w| self.is(w, WRITE, object));
-                !self.sees_other(k) || last() == Some(&self.observed[k])
+                !self.sees_other(k) || last() == Some(&self.links.observed[k])
             }
             WRITE => {
                 self.reads_ahead(&other[j..], object)
                     .all(|r| self.sees_other(r))
                     && self
                         .reads_ahead(&own[i + 1..], object)
-                        .all(|r| !other[..j].contains(&self.observed[r]))
+                        .all(|r| !other[..j].contains(&self.links.observed[r]))
             }
             ACQUIRE => {
-                !self.counts[k]
+                !self.links.counts[k]
                     || self.lock_free(&own[..i], object) && self.lock_free(&other[..j], object)
             }
+            JOIN => !missing(self.links.joined[k]),
             _ => true,
         }
     }
@@ -270,8 +310,7 @@ fn witness(events: &[Event], l: &Links, a: usize, b: usize) -> Option<Vec<usize>
     let dead = vec![false; (p.len() + 1) * (q.len() + 1)];
     let mut search = Search {
         events,
-        observed: &l.observed,
-        counts: &l.counts,
+        links: l,
         moved,
         p,
         q,

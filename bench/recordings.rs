@@ -1,10 +1,13 @@
 //! Seeded recordings of a given length: well-formed, by so many threads, with few or many cells and sparse or
-//! dense locks, or dense ones that are taken again while held. And three kinds that a search is slow on.
+//! dense locks, or dense ones that are taken again while held, or by threads that are forked and joined. And three
+//! kinds that a search is slow on.
 
 const READ: u8 = 1;
 const WRITE: u8 = 2;
 const ACQUIRE: u8 = 3;
 const RELEASE: u8 = 4;
+const FORK: u8 = 5;
+const JOIN: u8 = 6;
 
 /// Thread, kind, object.
 type Event = (u8, u8, u8);
@@ -52,10 +55,19 @@ pub struct Family {
     pub threads: u64,
     pub cells: u64,
     pub locks: Locks,
+    /// Do threads begin by a fork, and does thread 0 join some of them?
+    pub forks: bool,
 }
 
 /// The lock that a thread holds, and how deep.
 type Hold = Option<(u64, usize)>;
+
+/// The threads that run, and how many have begun and were joined.
+struct Threads {
+    running: Vec<u64>,
+    begun: u64,
+    joined: u64,
+}
 
 impl Family {
     pub fn name(self) -> String {
@@ -64,18 +76,20 @@ impl Family {
             Locks::Dense => "dense",
             Locks::Deep => "deep",
         };
-        format!("{} | {} | {locks}", self.threads, self.cells)
+        let forked = if self.forks { ", forked" } else { "" };
+        format!("{}{forked} | {} | {locks}", self.threads, self.cells)
     }
 
-    fn with(locks: &[Locks]) -> Vec<Family> {
+    fn with(threads: &[u64], locks: &[Locks], forks: bool) -> Vec<Family> {
         let mut all = Vec::new();
-        for threads in [2, 4, 8] {
+        for &threads in threads {
             for cells in [4, 64] {
                 for &locks in locks {
                     all.push(Family {
                         threads,
                         cells,
                         locks,
+                        forks,
                     });
                 }
             }
@@ -85,28 +99,76 @@ impl Family {
 
     /// The families of recordings: 2, 4 and 8 threads, 4 and 64 cells, sparse and dense locks.
     pub fn all() -> Vec<Family> {
-        Family::with(&[Locks::Sparse, Locks::Dense])
+        Family::with(&[2, 4, 8], &[Locks::Sparse, Locks::Dense], false)
     }
 
     /// The same with deep locks.
     pub fn deep() -> Vec<Family> {
-        Family::with(&[Locks::Deep])
+        Family::with(&[2, 4, 8], &[Locks::Deep], false)
+    }
+
+    /// With forks and joins: 4 and 8 threads, 4 and 64 cells, sparse locks.
+    pub fn forks() -> Vec<Family> {
+        Family::with(&[4, 8], &[Locks::Sparse], true)
     }
 
     /// A recording of n events. A thread outside any section enters one in one step of 16 (sparse) or of 3
     /// (dense, deep), if the lock it wants is free; inside, it gives back one level in one step of 4 and, if the
     /// locks are deep, takes its lock again in one of 4 of the other steps. All else are accesses, one in three a
     /// write.
+    ///
+    /// With forks, thread 0 runs alone at first. Then all the others are forked, and then half as many joins follow as
+    /// there are threads; they fall due at equal distances. A fork that is due is by thread 0 in its next step, or
+    /// before that by another thread, in one step of 8. A join that is due is by thread 0, in a step in which the
+    /// thread that it picks holds no lock.
     pub fn recording(self, n: usize, seed: u64) -> Vec<u8> {
         let mut r = Random::new(seed);
         let mut holds = vec![None; self.threads as usize];
+        let begun = if self.forks { 1 } else { self.threads };
+        let mut threads = Threads {
+            running: (0..begun).collect(),
+            begun,
+            joined: 0,
+        };
         let mut events = Vec::new();
-        for _ in 0..n {
-            let thread = r.below(self.threads);
-            let (kind, object) = self.step(&mut r, &mut holds, thread as usize);
+        for k in 0..n as u64 {
+            let thread = threads.running[r.below(threads.running.len() as u64) as usize];
+            let changes = threads.begun + threads.joined;
+            let due = self.forks && 3 * self.threads * k >= 2 * changes * n as u64;
+            let change = if due {
+                self.fork_or_join(&mut r, &mut threads, &holds, thread)
+            } else {
+                None
+            };
+            let (kind, object) =
+                change.unwrap_or_else(|| self.step(&mut r, &mut holds, thread as usize));
             events.push((thread as u8, kind, object as u8));
         }
         file_of(&events)
+    }
+
+    fn fork_or_join(
+        self,
+        r: &mut Random,
+        threads: &mut Threads,
+        holds: &[Hold],
+        thread: u64,
+    ) -> Option<(u8, u64)> {
+        if threads.begun < self.threads {
+            if thread == 0 || r.below(8) == 0 {
+                let child = threads.begun;
+                threads.begun += 1;
+                threads.running.push(child);
+                return Some((FORK, child));
+            }
+        } else if thread == 0 && threads.joined < self.threads / 2 {
+            let place = 1 + r.below(threads.running.len() as u64 - 1) as usize;
+            if holds[threads.running[place] as usize].is_none() {
+                threads.joined += 1;
+                return Some((JOIN, threads.running.remove(place)));
+            }
+        }
+        None
     }
 
     fn step(self, r: &mut Random, holds: &mut [Hold], thread: usize) -> (u8, u64) {

@@ -83,7 +83,7 @@ pub enum Observed {
 #[derive(Clone, Copy, Debug, PartialEq)]
 pub enum Check {
     Yes,
-    /// The first fault's number, 21 to 26.
+    /// The first fault's number, 21 to 27.
     No(u8),
 }
 

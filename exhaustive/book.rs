@@ -4,7 +4,8 @@ use crate::holds::{deepest, has_reentry};
 use crate::questions::{Asked, Verdict, AREA};
 use crate::recording::{made_readable, Event, Kind, Recording, Refusal};
 use crate::rules::{fits_after, Seen};
-use crate::study::{depends_on_depth, Pair, Study, SHORT_BY_TWO};
+use crate::study::{depends_on_depth, depends_on_forks, Pair, Study, SHORT_BY_TWO};
+use crate::threads::has_fork_or_join;
 use crate::writer::{self, Handed};
 use std::collections::BTreeMap;
 
@@ -119,6 +120,7 @@ impl Book {
         words.extend(study.pairs.iter().flat_map(|p| confirmed(study, p)));
         words.extend(study.pairs.iter().flat_map(|p| shape(study, p)));
         words.extend(reentry_words(study, self.group));
+        words.extend(fork_words(study, self.group));
         for word in words {
             self.count(word);
         }
@@ -286,6 +288,23 @@ fn reentry_words(study: &Study, group: &str) -> Vec<String> {
     }
     if events.len() <= SHORT_BY_TWO && depends_on_depth(events) {
         words.push(format!("with a pair that depends on the depth, {group}"));
+    }
+    words
+}
+
+/// What is told of a recording with a fork or a join.
+fn fork_words(study: &Study, group: &str) -> Vec<String> {
+    let events = study.events();
+    if !has_fork_or_join(events) {
+        return Vec::new();
+    }
+    let same = "confirmed: the same verdict and list with cells in place of forks and joins";
+    let mut words = vec![same.to_string(); study.pairs.len()];
+    words.push(format!("with a fork or a join, {group}"));
+    if events.len() <= SHORT_BY_TWO && depends_on_forks(events) {
+        words.push(format!(
+            "with a pair that depends on forks and joins, {group}"
+        ));
     }
     words
 }

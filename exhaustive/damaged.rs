@@ -1,5 +1,5 @@
 //! Group 5: damaged files, each refusal 1 to 9 and 13 at each of its edges, and two damages at
-//! once.
+//! once; 15, 16 and 17 among these.
 
 use crate::book::{Book, LONGEST};
 use crate::chance::Chance;
@@ -29,7 +29,7 @@ impl Raw {
         }
     }
 
-    fn bytes(&self) -> Vec<u8> {
+    pub fn bytes(&self) -> Vec<u8> {
         [&self.preamble, &self.events.concat(), &self.trailer[..]].concat()
     }
 
@@ -54,6 +54,8 @@ pub fn write(book: &mut Book) {
     two_at_once(book);
     at_random(book);
     deep_locks(book);
+    book.title("two damages at once, one of 15, 16, 17 or an unknown kind: 7, 15, 16, 17, 8 or 9");
+    two_of(book, &newer_pairs(&damages()));
 }
 
 fn sizes(book: &mut Book) {
@@ -202,6 +204,8 @@ fn fields(book: &mut Book) {
         (1, 5),
         (1, 255),
         (1, 6),
+        (1, 7),
+        (1, 8),
         (1, 0x81),
         (0, 15),
         (0, 16),
@@ -326,6 +330,7 @@ pub fn damages() -> Vec<Damage> {
         (3, |raw, _| raw.set_count(513)),
         (4, |raw, _| raw.trailer[0] ^= 4),
         (13, |raw, _| raw.preamble.push(0x09)),
+        // a fork since request Five: of oneself or of a thread that has an event
         (5, |raw, i| raw.events[i][1] = 5),
         (6, |raw, i| raw.events[i][0] = 16),
         (7, |raw, i| raw.events[i][3] = 1),
@@ -334,11 +339,29 @@ pub fn damages() -> Vec<Damage> {
     ]
 }
 
+/// Those of request Five, and an unknown kind.
+pub fn newer_damages() -> Vec<Damage> {
+    vec![
+        (5, |raw, i| raw.events[i][1] = 7),
+        (15, |raw, i| raw.events[i] = [1, 6, 1, 0]),
+        (16, |raw, i| raw.events[i] = [1, 5, 0, 0]),
+        (17, |raw, i| {
+            raw.events[i - 1] = [2, 6, 3, 0];
+            raw.events[i] = [3, 2, 0, 0];
+        }),
+    ]
+}
+
 fn two_at_once(book: &mut Book) {
     book.title("two damages at once: 1, 2, 3, 4, 13, then event by event 5, 6, 7, then 8 or 9");
+    two_of(book, &pairs_of(&damages(), &damages()));
+}
+
+/// Takes files with two damages each.
+fn two_of(book: &mut Book, damaged: &[Raw]) {
     // without the damages 7 entries would be just enough; refusal 10 is judged after all of them
     let lists = [0, 6, 7, LONGEST];
-    for (raw, entries) in pairs_of(&damages()).iter().zip(lists.iter().cycle()) {
+    for (raw, entries) in damaged.iter().zip(lists.iter().cycle()) {
         book.recording(&raw.bytes());
         book.ask22(*entries);
     }
@@ -347,13 +370,24 @@ fn two_at_once(book: &mut Book) {
 /// The recording that the damages are done to.
 pub const TO_DAMAGE: &str = "0+4 0w0 1r0 1w1 0r1 0-4";
 
-/// Every two of the damages; where both are done to events, then to the same event, to an earlier
-/// and a later one, and the other way round.
-pub fn pairs_of(damages: &[Damage]) -> Vec<Raw> {
-    let of_event = |number: u8| (5..=9).contains(&number);
+/// Every two of the damages of which one is of request Five or an unknown kind.
+pub fn newer_pairs(older: &[Damage]) -> Vec<Raw> {
+    let newer = newer_damages();
+    [
+        pairs_of(older, &newer),
+        pairs_of(&newer, older),
+        pairs_of(&newer, &newer),
+    ]
+    .concat()
+}
+
+/// Every two of the damages, one of these and one of those. Where both are done to events, they are
+/// done to the same event, to an earlier and a later one, and the other way round.
+pub fn pairs_of(these: &[Damage], those: &[Damage]) -> Vec<Raw> {
+    let of_event = |number: u8| matches!(number, 5..=9 | 15..=17);
     let mut damaged = Vec::new();
-    for (first, one) in damages {
-        for (second, two) in damages {
+    for (first, one) in these {
+        for (second, two) in those {
             for (i, j) in [(2, 2), (1, 4), (4, 1), (3, 4)] {
                 if (i, j) != (1, 4) && !(of_event(*first) && of_event(*second)) {
                     continue;
@@ -410,7 +444,7 @@ fn at_random(book: &mut Book) {
     }
 }
 
-fn spoil(bytes: &mut Vec<u8>, chance: &mut Chance) {
+pub fn spoil(bytes: &mut Vec<u8>, chance: &mut Chance) {
     let place = chance.below(bytes.len());
     let of_event = chance.below(bytes.len().max(9) - 8);
     match chance.below(8) {

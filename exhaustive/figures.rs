@@ -169,3 +169,123 @@ fn more_of_001(book: &mut Book) {
     put(book, title, FIGURE_5, &[no_race(4, 20)]);
     book.ask22(LONGEST);
 }
+
+/// Figures of document 002: t_1 to t_4 are threads 0 to 3; a, b = cells 0, 1 and x, y, z = locks
+/// 0, 1, 2. In figure 13 x, y = cells 0, 1, and l_1 to l_3 = locks 1 to 3.
+const FORKS_2: &str = "0f2 0+0 0f1 1w0 0j1 0-0 2+0 2w0 2-0";
+const FORKS_3: &str = "0f1 0+0 0w0 0-0 1+0 1-0 1w0";
+const FORKS_4: &str = "0f2 0f1 0w0 0+1 0w1 0-1 1+1 1w1 1-1 1w0";
+const FORKS_5: &str = "0f2 0+0 0f1 1+1 1-1 0j1 0w0 0-0 2+1 2+0 2-0 2w0 2-1";
+const LEMMA_5_8: &str = "0+0 0f1 0w0 1w0 0j1 0-0";
+const FORKS_6: &str = "0f1 0f2 0+0 0w0 1w1 0j1 0-0 2+0 2f3 3w1 2r0 2-0";
+const FORKS_7: &str = "0f1 0f2 0+0 1+1 1-1 2+2 2j1 2-2 0j1 0-0";
+const FORKS_9: &str = "0f1 0f2 0+0 0w0 1+1 1w1 0j1 0-0 2+0 2f3 3w1 2r0 2-0 1j3 1-1";
+const FORKS_10: &str = "0f1 0w0 0+0 0w0 0-0 1+0 1w0 1-0";
+const FORKS_13: &str = "0f2 0+1 0+2 0f1 1+3 1w0 1-3 0j1 0-2 0w1 0-1 \
+                        2+1 2+2 2w0 2-2 2-1 2+3 2w1 2r0 2-3";
+const FORKS_14: &str = "0f2 0+0 0f1 1w0 0w1 0j1 0-0 2+0 2f3 3r0 2j3 2-0 2w1";
+
+/// Document 002, whose recordings have forks and joins.
+pub fn document_002(book: &mut Book) {
+    book.group("group 10, document 002: its figures and the recording of its lemma 5.8");
+    sections_across_threads(book);
+    swapped_sections(book);
+    stated_otherwise(book);
+}
+
+fn sections_across_threads(book: &mut Book) {
+    let title = "document 002, figure 2: the paper says (4, 8) cannot be brought together; agreed";
+    put(book, title, FORKS_2, &[no_race(4, 8)]);
+    book.ask5(4, 8, &[1, 7]);
+    book.assert_answer("no 25");
+    book.ask5(4, 8, &[1, 2, 3, 7]);
+    book.assert_answer("no 24");
+    book.ask5(4, 8, &[1, 7, 2, 3]);
+    book.assert_answer("no 24");
+    let title = "document 002, figure 5: the paper says (7, 12) is not a predictable race; agreed";
+    put(book, title, FORKS_5, &[no_race(7, 12)]);
+    book.ask5(7, 12, &[1, 2, 3, 9]);
+    book.ask5(7, 12, &[1, 2, 3, 9, 10]);
+    book.assert_answer("no 24");
+    book.ask5(7, 12, &[1, 2, 3, 9, 4]);
+    book.assert_answer("no 24");
+    book.ask5(7, 12, &[1, 2, 3, 9, 6]);
+    book.assert_answer("no 27");
+    let title = "document 002, lemma 5.8: the paper says (3, 4) is a race; reported";
+    put(book, title, LEMMA_5_8, &[race(3, 4)]);
+    book.ask5(3, 4, &[1, 2]);
+    book.assert_answer("yes");
+    book.ask5(3, 4, &[1]);
+    let title =
+        "document 002, figure 7: the paper says it is well-formed, one thread joined twice; \
+                 good, without accesses";
+    put(book, title, FORKS_7, &[]);
+    let title = "document 002, figure 14: the paper says there is no race here; agreed";
+    put(book, title, FORKS_14, &[no_race(4, 10), no_race(5, 13)]);
+    book.ask5(5, 13, &[1, 2, 3, 4, 8, 9, 10, 11, 12]);
+    book.assert_answer("no 24");
+    book.ask5(5, 13, &[1, 8, 9, 11]);
+    book.assert_answer("no 27");
+}
+
+fn swapped_sections(book: &mut Book) {
+    let title = "document 002, figure 3: the paper says (3, 7) is a race; reported";
+    put(book, title, FORKS_3, &[race(3, 7)]);
+    book.ask5(3, 7, &[1, 5, 6, 2]);
+    book.assert_answer("yes");
+    book.ask5(3, 7, &[5, 6, 1, 2]);
+    book.assert_answer("no 27");
+    let title = "document 002, figure 4: the paper says (3, 10) is a race and (5, 8) is none; \
+                 agreed, (3, 10) is reported";
+    put(book, title, FORKS_4, &[race(3, 10), no_race(5, 8)]);
+    book.ask5(3, 10, &[1, 2, 7, 8, 9]);
+    book.assert_answer("yes");
+    book.ask5(3, 10, &[1, 7, 8, 9]);
+    book.assert_answer("no 27");
+    let title = "document 002, figure 10: the paper says (2, 7) is a race; reported";
+    put(book, title, FORKS_10, &[race(2, 7), no_race(4, 7)]);
+    book.ask5(2, 7, &[1, 6]);
+    book.assert_answer("yes");
+    book.ask5(2, 7, &[6, 1]);
+    book.assert_answer("no 27");
+}
+
+/// Where the paper's words and its definitions differ.
+fn stated_otherwise(book: &mut Book) {
+    let missed = |a, b| Said {
+        pair: (a, b),
+        race: true,
+        reported: false,
+    };
+    let title = "document 002, figure 6: the paper says (5, 10) is not predictable; by its own \
+                 definitions and these rules 1 2 8 9 brings both next; not reported (with 8 comes \
+                 12, so 11, so 4, so 7, so 6, so 5)";
+    put(book, title, FORKS_6, &[missed(5, 10), no_race(4, 11)]);
+    book.ask5(5, 10, &[1, 2, 8, 9]);
+    book.assert_answer("yes");
+    book.ask5(5, 10, &[1, 2, 8]);
+    book.assert_answer("no 26");
+    let title = "document 002, figure 13: the paper says (10, 18) is not predictable; by its own \
+                 definitions and these rules a list brings both next; not reported (thread 1's \
+                 section would have to come behind thread 2's)";
+    let said = [missed(10, 18), no_race(6, 14), no_race(6, 19)];
+    put(book, title, FORKS_13, &said);
+    let swapped = [1, 12, 13, 14, 15, 16, 2, 3, 4, 5, 6, 7, 8, 9, 17];
+    book.ask5(10, 18, &swapped);
+    book.assert_answer("yes");
+    book.ask5(10, 18, &swapped[..14]);
+    book.assert_answer("no 26");
+    book.title(
+        "document 002, figure 9: 7 joins the second thread, which has the events 14 and 15; \
+         refused 17 at 14",
+    );
+    book.recording(&file(&[], &told(FORKS_9)));
+    assert!(book
+        .stdout
+        .trim_end()
+        .ends_with("refused 17 at 14 | note 0"));
+    ask_all(book);
+    book.recording(&file(&[], &told(FORKS_9)[..13]));
+    ask_all(book);
+    book.ask5(6, 11, &[1, 2, 5, 9, 10]);
+}

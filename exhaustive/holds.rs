@@ -3,7 +3,7 @@
 //! cone rule (iv) and in "no lock acquired while held"; the inner ones are events as any other.
 
 use crate::recording::{r, Event, Kind};
-use crate::rules::is_access;
+use crate::rules::is_of_lock;
 
 /// A lock's holder, and how many of the holder's acquires are not undone: one or more.
 #[derive(Clone, Copy, PartialEq, Eq, Debug)]
@@ -84,7 +84,7 @@ pub fn deepest(events: &[Event]) -> usize {
 
 /// A read of a cell that no recording has: it stands in its thread as any event, and nothing else
 /// depends on it.
-fn idle(thread: u8) -> Event {
+pub fn idle(thread: u8) -> Event {
     r(thread, 1000)
 }
 
@@ -93,7 +93,7 @@ fn idle(thread: u8) -> Event {
 pub fn without_inner(events: &[Event]) -> Vec<Event> {
     (1..=events.len())
         .map(|number| match events[number - 1] {
-            event if !is_access(event) && !counts(events, number) => idle(event.thread),
+            event if is_of_lock(event) && !counts(events, number) => idle(event.thread),
             event => event,
         })
         .collect()

@@ -1,7 +1,8 @@
 //! An independent exhaustive program: it answers the six questions of paper 01 and the writer's of
-//! request One by the published definitions alone, with the re-entrant locks of request Three, by
-//! listing and comparing, and writes down what it found as vectors. Three things are choices of this project: what lists of different lengths
-//! get, the list lent for all of question 2's answers at once, and the form of a text.
+//! request One by the published definitions alone, with the re-entrant locks of request Three and
+//! the forks and joins of request Five, by listing and comparing, and writes down what it found as
+//! vectors. Three things are choices of this project: what lists of different lengths get, the list
+//! lent for all of question 2's answers at once, and the form of a text.
 
 mod askings;
 mod book;
@@ -9,7 +10,9 @@ mod chance;
 mod damaged;
 mod depths;
 mod enumerate;
+mod families;
 mod figures;
+mod forks;
 mod holds;
 mod limits;
 mod preambles;
@@ -23,6 +26,8 @@ mod short;
 mod stability;
 mod study;
 mod text;
+mod threads;
+mod unforked;
 mod worked;
 mod writer;
 mod writings;
@@ -43,6 +48,11 @@ fn vectors() -> Book {
     samples::write(&mut book);
     writings::write(&mut book);
     worked::choices(&mut book);
+    forks::write(&mut book);
+    figures::document_002(&mut book);
+    unforked::write(&mut book);
+    families::write(&mut book);
+    writings::forks_and_joins(&mut book);
     book
 }
 
@@ -100,14 +110,17 @@ fn confirm() {
     {
         println!("{count:8} {what}");
     }
+    families::confirm();
     stability::confirm_short();
-    let of_book = worked::ALL.iter().map(|text| recording::told(text));
+    stability::confirm_forks();
+    let of_book = worked::ALL.iter().chain(&forks::ALL);
+    let of_book = of_book.map(|text| recording::told(text));
     let recordings: Vec<_> = book.random.iter().cloned().chain(of_book).collect();
     stability::confirm_random(&recordings);
 }
 
-/// Further random recordings for whoever wants more than what is stored, every third of them with
-/// re-entry.
+/// Further random recordings for whoever wants more than what is stored, a third of them with
+/// re-entry, a third with forks and joins.
 fn more(seed: &str, count: &str, dir: &str, longer: bool) {
     let seed: u64 = seed.parse().expect("SEED is a number");
     let mut chance = Chance::new(seed);
@@ -116,11 +129,13 @@ fn more(seed: &str, count: &str, dir: &str, longer: bool) {
     let mut book = Book::new();
     book.group("more random recordings");
     for turn in 0..count {
-        match (turn % 3 == 2, longer) {
-            (false, false) => random::put_one(&mut book, &mut chance),
-            (false, true) => random::put_longer(&mut book, &mut chance, turn),
-            (true, false) => reentry::put_one(&mut book, &mut chance),
-            (true, true) => reentry::put_longer(&mut book, &mut chance, turn),
+        match (turn % 3, longer) {
+            (0, false) => random::put_one(&mut book, &mut chance),
+            (0, true) => random::put_longer(&mut book, &mut chance, turn),
+            (1, false) => families::put_one(&mut book, &mut chance),
+            (1, true) => families::put_longer(&mut book, &mut chance, turn / 3),
+            (_, false) => reentry::put_one(&mut book, &mut chance),
+            (_, true) => reentry::put_longer(&mut book, &mut chance, turn),
         }
         askings::ask_all_now_and_then(&mut book, &mut of_all);
     }

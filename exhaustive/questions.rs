@@ -6,6 +6,7 @@ use crate::rules::{
     conflicting, enabled, held_by_another, next_of_thread, observed, seen_after, Seen,
 };
 use crate::study::Study;
+use crate::threads::{begun, ended};
 
 /// The least work area of questions 3 and 4.
 pub const AREA: usize = 65_536;
@@ -131,7 +132,7 @@ pub fn first_fault(events: &[Event], a: usize, b: usize, list: &[usize]) -> Opti
     (!enabled(events, list, b)).then_some(26)
 }
 
-/// The fault of one place, those before it being clean: 21, 22, 23, 24 in this order.
+/// The fault of one place, those before it being clean: 21, 22, 23, 24, 27 in this order.
 fn fault_at(events: &[Event], before: &[usize], number: usize) -> Option<u8> {
     if number == 0 || number > events.len() {
         return Some(21);
@@ -145,6 +146,7 @@ fn fault_at(events: &[Event], before: &[usize], number: usize) -> Option<u8> {
             Some(23)
         }
         Kind::Acquire if held_by_another(events, before, event) => Some(24),
+        _ if !begun(events, before, event) || !ended(events, before, event) => Some(27),
         _ => None,
     }
 }

@@ -81,7 +81,7 @@ pub fn random_events_by(chance: &mut Chance, threads: usize) -> Vec<Event> {
         let events = match chance.below(10) {
             0..=2 => loose(chance, &stock, n),
             3..=6 => in_sections(chance, &stock, n, script),
-            _ => like_the_book(chance, &stock, &tangles()),
+            _ => like_the_book(chance, &stock, &tangles(), edit),
         };
         if count_threads(&events) == threads {
             return events;
@@ -194,8 +194,16 @@ fn script(chance: &mut Chance, stock: &Stock, thread: u8) -> Vec<Event> {
     events
 }
 
+/// How a recording is changed a little.
+pub type Edit = fn(&mut Chance, &mut Vec<Event>);
+
 /// One of these recordings with some events inserted, left out or exchanged.
-pub fn like_the_book(chance: &mut Chance, stock: &Stock, tangles: &[Vec<Event>]) -> Vec<Event> {
+pub fn like_the_book(
+    chance: &mut Chance,
+    stock: &Stock,
+    tangles: &[Vec<Event>],
+    edit: Edit,
+) -> Vec<Event> {
     loop {
         let mut events = chance.one_of(tangles);
         for _ in 0..chance.from_to(1, 5) {
@@ -219,7 +227,7 @@ fn tangles() -> Vec<Vec<Event>> {
 }
 
 /// One event inserted, left out, moved or given to another thread.
-fn edit(chance: &mut Chance, events: &mut Vec<Event>) {
+pub fn edit(chance: &mut Chance, events: &mut Vec<Event>) {
     let place = chance.below(events.len());
     let thread = chance.below(4) as u8;
     let lock = chance.below(2) as u16;
@@ -242,9 +250,11 @@ fn edit(chance: &mut Chance, events: &mut Vec<Event>) {
 }
 
 fn rename(stock: &Stock, event: Event) -> Event {
+    let threads: Vec<u16> = stock.threads.iter().map(|t| u16::from(*t)).collect();
     let objects = match event.kind {
         Kind::Read | Kind::Write => &stock.cells,
         Kind::Acquire | Kind::Release => &stock.locks,
+        Kind::Fork | Kind::Join => &threads,
     };
     Event {
         thread: stock.threads[event.thread as usize % stock.threads.len()],

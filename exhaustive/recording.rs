@@ -1,8 +1,9 @@
 //! A recording as bytes: how it is laid out and how it is judged
 //! (paper 01, "A recording on the desk" and refusals 1 to 9; request One, refusal 13; request
-//! Three, refusals 8 and 9).
+//! Three, refusals 8 and 9; request Five, refusals 15, 16 and 17).
 
 use crate::holds::{held_by_another, hold};
+use crate::threads::{has_event, is_forked, is_joined};
 
 #[derive(Clone, Copy, PartialEq, Eq, Debug)]
 pub enum Kind {
@@ -10,6 +11,8 @@ pub enum Kind {
     Write,
     Acquire,
     Release,
+    Fork,
+    Join,
 }
 
 #[derive(Clone, Copy, PartialEq, Eq, Debug)]
@@ -55,7 +58,8 @@ impl Refusal {
     }
 }
 
-/// Judges a file: refusals 1, 2, 3, 4, then 13, then event by event 5, 6, 7, then 8 or 9.
+/// Judges a file: refusals 1, 2, 3, 4, then 13, then event by event 5, 6, 7, then 15, 16, 17, then
+/// 8 or 9.
 pub fn judge(bytes: &[u8]) -> Result<Recording, Refusal> {
     let first = first_event(bytes)?;
     let preamble = &bytes[..first];
@@ -88,12 +92,13 @@ pub fn made_readable(bytes: &[u8]) -> Vec<u8> {
     bytes
 }
 
-/// Judges the events one by one: refusals 5, 6, 7, then 8 or 9.
+/// Judges the events one by one: refusals 5, 6, 7, then 15, 16, 17, then 8 or 9.
 pub fn judge_events(bytes: &[u8]) -> Result<Vec<Event>, Refusal> {
     let mut events: Vec<Event> = Vec::new();
     for four in bytes.chunks(4) {
         let number = events.len() + 1;
         let event = judge_event(four, number)?;
+        judge_thread(&events, event, number)?;
         judge_lock(&events, event, number)?;
         events.push(event);
     }
@@ -127,13 +132,15 @@ fn judge_event(four: &[u8], number: usize) -> Result<Event, Refusal> {
         2 => Kind::Write,
         3 => Kind::Acquire,
         4 => Kind::Release,
+        5 => Kind::Fork,
+        6 => Kind::Join,
         _ => return Err(Refusal::at(5, number)),
     };
     if four[0] > 15 {
         return Err(Refusal::at(6, number));
     }
     let object = u16::from_le_bytes([four[2], four[3]]);
-    if object > 255 {
+    if object > most_object(kind) {
         return Err(Refusal::at(7, number));
     }
     Ok(Event {
@@ -141,6 +148,32 @@ fn judge_event(four: &[u8], number: usize) -> Result<Event, Refusal> {
         kind,
         object,
     })
+}
+
+/// The object of a fork or a join is a thread; cells and locks go further.
+fn most_object(kind: Kind) -> u16 {
+    match kind {
+        Kind::Fork | Kind::Join => 15,
+        _ => 255,
+    }
+}
+
+/// Well-formed: no thread forks or joins itself, and none is forked twice (15); none is forked that
+/// has an event (16); a joined thread has no event more (17).
+fn judge_thread(before: &[Event], event: Event, number: usize) -> Result<(), Refusal> {
+    let of_thread = matches!(event.kind, Kind::Fork | Kind::Join);
+    let fork = event.kind == Kind::Fork;
+    let of_itself = of_thread && event.object == u16::from(event.thread);
+    if of_itself || fork && is_forked(before, event.object) {
+        return Err(Refusal::at(15, number));
+    }
+    if fork && has_event(before, event.object) {
+        return Err(Refusal::at(16, number));
+    }
+    if is_joined(before, event.thread.into()) {
+        return Err(Refusal::at(17, number));
+    }
+    Ok(())
 }
 
 /// Well-formed: an acquire takes a lock that no other thread holds (8), a release is by the
@@ -158,7 +191,7 @@ fn judge_lock(before: &[Event], event: Event, number: usize) -> Result<(), Refus
 
 /// Whether the event may come next in a well-formed recording.
 pub fn may_come_next(events: &[Event], event: Event) -> bool {
-    judge_lock(events, event, 0).is_ok()
+    judge_thread(events, event, 0).is_ok() && judge_lock(events, event, 0).is_ok()
 }
 
 /// The number of different threads that have an event.
@@ -174,6 +207,8 @@ pub fn event_bytes(event: &Event) -> [u8; 4] {
         Kind::Write => 2,
         Kind::Acquire => 3,
         Kind::Release => 4,
+        Kind::Fork => 5,
+        Kind::Join => 6,
     };
     let object = event.object.to_le_bytes();
     [event.thread, kind, object[0], object[1]]
@@ -213,6 +248,14 @@ pub fn rel(thread: u8, lock: u16) -> Event {
     made(thread, Kind::Release, lock)
 }
 
+pub fn fork(thread: u8, child: u16) -> Event {
+    made(thread, Kind::Fork, child)
+}
+
+pub fn join(thread: u8, child: u16) -> Event {
+    made(thread, Kind::Join, child)
+}
+
 fn made(thread: u8, kind: Kind, object: u16) -> Event {
     Event {
         thread,
@@ -221,20 +264,23 @@ fn made(thread: u8, kind: Kind, object: u16) -> Event {
     }
 }
 
-/// Events from words such as `0w1 0+0 2r1 0-0`: thread, then r, w, + (acquire) or - (release),
-/// then the object.
+/// Events from words such as `0w1 0+0 2r1 0-0 0f3`: thread, then r, w, + (acquire), - (release),
+/// f (fork) or j (join), then the object.
 pub fn told(text: &str) -> Vec<Event> {
     text.split_whitespace().map(told_event).collect()
 }
 
 fn told_event(word: &str) -> Event {
-    let place = word.find(['r', 'w', '+', '-']).expect("a kind");
+    let place = word.find(['r', 'w', '+', '-', 'f', 'j']);
+    let place = place.expect("a kind");
     let thread = word[..place].parse().expect("a thread");
     let object = word[place + 1..].parse().expect("an object");
     match &word[place..=place] {
         "r" => r(thread, object),
         "w" => w(thread, object),
         "+" => acq(thread, object),
-        _ => rel(thread, object),
+        "-" => rel(thread, object),
+        "f" => fork(thread, object),
+        _ => join(thread, object),
     }
 }

@@ -4,7 +4,7 @@ use crate::askings::{ask_a_few, ask_all_now_and_then};
 use crate::book::Book;
 use crate::chance::Chance;
 use crate::holds::{has_reentry, hold};
-use crate::random::{in_sections, like_the_book, random_access, random_stock, Stock};
+use crate::random::{edit, in_sections, like_the_book, random_access, random_stock, Stock};
 use crate::recording::{acq, count_threads, file, rel, told, Event};
 use crate::study::depends_on_depth;
 
@@ -56,7 +56,7 @@ pub fn random_reentry(chance: &mut Chance) -> Vec<Event> {
         match chance.below(10) {
             0..=2 => loose(chance, stock, n),
             3..=6 => in_sections(chance, stock, n, deep_script),
-            _ => like_the_book(chance, stock, &tangles()),
+            _ => like_the_book(chance, stock, &tangles(), edit),
         }
     })
 }

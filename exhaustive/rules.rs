@@ -1,8 +1,10 @@
 //! The definitions of paper 01, "When one access can meet another", each tested by its own words;
-//! of locks as request Three has it. Events are numbered from 1; a list is a list of event numbers.
+//! of locks as request Three has it, of forks and joins as request Five has it. Events are numbered
+//! from 1; a list is a list of event numbers.
 
 use crate::holds::{self, counts};
 use crate::recording::{Event, Kind};
+use crate::threads::{begun, ended, fork_of, joined_by};
 
 pub type List = Vec<usize>;
 
@@ -38,6 +40,10 @@ pub fn is_access(event: Event) -> bool {
     matches!(event.kind, Kind::Read | Kind::Write)
 }
 
+pub fn is_of_lock(event: Event) -> bool {
+    matches!(event.kind, Kind::Acquire | Kind::Release)
+}
+
 /// Conflicting pair: a lower than b, different threads, same cell, at least one a write.
 pub fn conflicting(events: &[Event], a: usize, b: usize) -> bool {
     if a == 0 || a >= b || b > events.len() {
@@ -57,6 +63,7 @@ pub fn correct(events: &[Event], list: &[usize]) -> bool {
         && beginnings_in_order(events, list)
         && no_lock_acquired_while_held(events, list)
         && reads_see_as_recorded(events, list)
+        && forks_and_joins_obeyed(events, list)
 }
 
 fn none_twice(list: &[usize]) -> bool {
@@ -84,7 +91,7 @@ fn no_lock_acquired_while_held(events: &[Event], list: &[usize]) -> bool {
 
 /// Whether the lock is held after the list: of those that count, the last one is an acquire.
 fn held_after(events: &[Event], list: &[usize], lock: u16) -> bool {
-    let of_lock = |e: &usize| !is_access(at(events, *e)) && at(events, *e).object == lock;
+    let of_lock = |e: &usize| is_of_lock(at(events, *e)) && at(events, *e).object == lock;
     list.iter()
         .copied()
         .rev()
@@ -104,6 +111,14 @@ fn reads_see_as_recorded(events: &[Event], list: &[usize]) -> bool {
         at(events, list[i]).kind != Kind::Read
             || seen_after(events, &list[..i], at(events, list[i]).object)
                 == observed(events, list[i])
+    })
+}
+
+/// A forked thread's events follow its fork; a join follows all events of the joined thread.
+fn forks_and_joins_obeyed(events: &[Event], list: &[usize]) -> bool {
+    (0..list.len()).all(|i| {
+        let event = at(events, list[i]);
+        begun(events, &list[..i], event) && ended(events, &list[..i], event)
     })
 }
 
@@ -130,6 +145,9 @@ pub fn fits_after(events: &[Event], list: &[usize], number: usize) -> bool {
         return false;
     }
     let event = at(events, number);
+    if !begun(events, list, event) || !ended(events, list, event) {
+        return false;
+    }
     match event.kind {
         Kind::Read => seen_after(events, list, event.object) == observed(events, number),
         Kind::Acquire => !held_by_another(events, list, event),
@@ -137,9 +155,12 @@ pub fn fits_after(events: &[Event], list: &[usize], number: usize) -> bool {
     }
 }
 
-/// Enabled: not in the list, and the next of its thread. What a read would see does not matter.
+/// Enabled: not in the list, the next of its thread, and the thread's fork, if there is one, is in
+/// the list. What a read would see does not matter.
 pub fn enabled(events: &[Event], list: &[usize], number: usize) -> bool {
-    !list.contains(&number) && next_of_thread(events, list, number)
+    !list.contains(&number)
+        && next_of_thread(events, list, number)
+        && begun(events, list, at(events, number))
 }
 
 /// A list that brings both accesses next.
@@ -148,11 +169,13 @@ pub fn brings_next(events: &[Event], list: &[usize], a: usize, b: usize) -> bool
 }
 
 /// The causal cone of (a, b): place e tells whether event e is in it.
-/// The four rules are used again and again until nothing changes.
+/// The rules are used again and again until nothing changes.
 pub fn cone(events: &[Event], a: usize, b: usize) -> Vec<bool> {
     let mut inside = vec![false; events.len() + 1];
-    take_earlier(events, &mut inside, a);
-    take_earlier(events, &mut inside, b);
+    for e in [a, b] {
+        take_earlier(events, &mut inside, e);
+        take_fork(events, &mut inside, e);
+    }
     loop {
         let before = inside.clone();
         for e in 1..=events.len() {
@@ -175,9 +198,20 @@ fn take_earlier(events: &[Event], inside: &mut [bool], number: usize) {
     }
 }
 
-/// Rules (ii), (iii) and (iv) for one event of the cone.
+/// Request Five: the fork of this event's thread.
+fn take_fork(events: &[Event], inside: &mut [bool], number: usize) {
+    if let Some(fork) = fork_of(events, at(events, number)) {
+        inside[fork] = true;
+    }
+}
+
+/// Rules (ii), (iii) and (iv) for one event of the cone, and those of request Five.
 fn use_rules(events: &[Event], inside: &mut [bool], number: usize, a: usize, b: usize) {
     take_earlier(events, inside, number);
+    take_fork(events, inside, number);
+    for joined in joined_by(events, at(events, number)) {
+        inside[joined] = true;
+    }
     if let Seen::Write(write) = observed(events, number) {
         inside[write] = true;
     }

@@ -110,6 +110,11 @@ note begun late!
 15 write 7
 0 read 128
 3 read 0
+15 fork 12
+12 write 42
+#0 fork 1
+3 join 12
+0 fork 1
 # any byte may follow: \t\r\x7F\u{FF}
 ";
 

@@ -1,15 +1,18 @@
 //! Confirmations about lengthenings (paper 01, demand 3). By at most two threads: each conflicting
 //! pair has the same verdict and the same list shown in a lengthening, and a pair that is not
 //! reported is not predictable there. By any number: the list shown passes question 5.
+//! Request Five: a lengthening may fork, join and begin threads.
 
 use crate::chance::Chance;
 use crate::enumerate::every_correct;
+use crate::families;
 use crate::holds::has_reentry;
 use crate::questions::first_fault;
-use crate::recording::{acq, count_threads, may_come_next, r, rel, w, Event, Kind};
-use crate::rules::{brings_next, List};
+use crate::recording::{acq, count_threads, fork, join, may_come_next, r, rel, w, Event, Kind};
+use crate::rules::{brings_next, is_access, is_of_lock, List};
 use crate::short::{every, every_with_reentry};
 use crate::study::{conflicting_pairs, shown_by_merges, SHORT};
+use crate::threads::{has_event, has_fork_or_join, is_forked, is_joined};
 
 type Known = (usize, usize, Option<List>);
 
@@ -39,6 +42,10 @@ pub struct Tally {
     pub lengthenings: usize,
     /// Those in which a lock is taken again.
     pub with_reentry: usize,
+    /// Those with a fork or a join among the added events.
+    pub with_forks: usize,
+    /// Those in which a thread begins that is forked in the recording or among the added events.
+    pub begun: usize,
     pub same_verdicts: usize,
     pub never_predictable: usize,
     pub lists_still_pass: usize,
@@ -50,6 +57,13 @@ impl Tally {
     fn look(&mut self, base: &Base, longer: &[Event]) {
         self.lengthenings += 1;
         self.with_reentry += usize::from(has_reentry(longer));
+        let (before, added) = longer.split_at(base.events.len());
+        self.with_forks += usize::from(has_fork_or_join(added));
+        let begins = |e: &Event| {
+            let thread = u16::from(e.thread);
+            !has_event(before, thread) && is_forked(longer, thread)
+        };
+        self.begun += usize::from(added.iter().any(begins));
         for (a, b, shown) in &base.pairs {
             let now = shown_by_merges(longer, *a, *b);
             if base.by_two {
@@ -117,10 +131,13 @@ impl Tally {
 
     pub fn print(&self, what: &str) {
         println!(
-            "{what}: {} lengthenings ({} with re-entry), {} verdicts the same, {} pairs still \
-             not predictable, {} lists still pass, {} verdicts changed (three or more threads)",
+            "{what}: {} lengthenings ({} with re-entry, {} with a fork or a join added, {} in which \
+             a forked thread begins), {} verdicts the same, {} pairs still not predictable, {} \
+             lists still pass, {} verdicts changed (three or more threads)",
             self.lengthenings,
             self.with_reentry,
+            self.with_forks,
+            self.begun,
             self.same_verdicts,
             self.never_predictable,
             self.lists_still_pass,
@@ -148,6 +165,8 @@ fn events_words(events: &[Event]) -> String {
                 Kind::Write => "w",
                 Kind::Acquire => "acq",
                 Kind::Release => "rel",
+                Kind::Fork => "fork",
+                Kind::Join => "join",
             };
             format!("T{} {kind}({})", e.thread, e.object)
         })
@@ -155,15 +174,29 @@ fn events_words(events: &[Event]) -> String {
     words.join(", ")
 }
 
+/// The threads that have an event here or are forked or joined, and so many new ones.
+fn threads_with(events: &[Event], new_threads: usize) -> Vec<u8> {
+    let named = |t: &u8| {
+        let thread = u16::from(*t);
+        has_event(events, thread) || is_forked(events, thread) || is_joined(events, thread)
+    };
+    let old = (0..16u8).filter(named);
+    let new = (0..16u8).filter(|t| !named(t)).take(new_threads);
+    old.chain(new).collect()
+}
+
 /// What events may be added: the recording's threads and so many new ones, its cells and locks
 /// and a new one of each.
 fn additions(events: &[Event], new_threads: usize) -> Vec<Event> {
-    let has = |t: u8| events.iter().any(|e| e.thread == t);
-    let old = (0..16u8).filter(|t| has(*t));
-    let new = (0..16u8).filter(|t| !has(*t)).take(new_threads);
-    let threads: Vec<u8> = old.chain(new).collect();
+    let threads = threads_with(events, new_threads);
     let objects = |cell: bool| -> Vec<u16> {
-        let of_kind = |e: &&Event| matches!(e.kind, Kind::Read | Kind::Write) == cell;
+        let of_kind = |e: &&Event| {
+            if cell {
+                is_access(**e)
+            } else {
+                is_of_lock(**e)
+            }
+        };
         let used: Vec<u16> = events.iter().filter(of_kind).map(|e| e.object).collect();
         let new = (0..256u16).find(|o| !used.contains(o));
         (0..256u16)
@@ -174,6 +207,17 @@ fn additions(events: &[Event], new_threads: usize) -> Vec<Event> {
     for t in threads {
         all.extend(objects(true).iter().flat_map(|c| [r(t, *c), w(t, *c)]));
         all.extend(objects(false).iter().flat_map(|l| [acq(t, *l), rel(t, *l)]));
+    }
+    all
+}
+
+/// The same, and forks and joins of all these threads.
+fn additions_with_forks(events: &[Event], new_threads: usize) -> Vec<Event> {
+    let threads = threads_with(events, new_threads);
+    let mut all = additions(events, new_threads);
+    for t in &threads {
+        let others = threads.iter().map(|o| u16::from(*o));
+        all.extend(others.flat_map(|o| [fork(*t, o), join(*t, o)]));
     }
     all
 }
@@ -198,28 +242,28 @@ fn every_lengthening(
     }
 }
 
-/// All lengthenings by one to so many events.
-fn all_of(events: &[Event], new_threads: usize, steps: usize, tally: &mut Tally) {
+/// All lengthenings by one to so many of these events.
+fn all_of(events: &[Event], added: &[Event], steps: usize, tally: &mut Tally) {
     let base = Base::new(events);
     if !base.pairs.is_empty() {
-        let added = additions(events, new_threads);
         let mut longer = events.to_vec();
-        every_lengthening(&mut longer, &added, steps, &mut |e| tally.look(&base, e));
+        every_lengthening(&mut longer, added, steps, &mut |e| tally.look(&base, e));
     }
 }
 
-/// A few lengthenings, at random, by at least so many events and at most three.
+/// A few lengthenings, at random, by at least so many events and at most three; every other one may
+/// have forks and joins.
 fn some_of(events: &[Event], least: usize, times: usize, chance: &mut Chance, tally: &mut Tally) {
     let base = Base::new(events);
     if base.pairs.is_empty() {
         return;
     }
-    let added = additions(events, 2);
-    for _ in 0..times {
+    let added = [additions_with_forks(events, 2), additions(events, 2)];
+    for turn in 0..times {
         let mut longer = events.to_vec();
         let steps = chance.from_to(least, 3);
         while longer.len() < events.len() + steps {
-            let event = chance.one_of(&added);
+            let event = chance.one_of(&added[turn % 2]);
             if may_come_next(&longer, event) {
                 longer.push(event);
             }
@@ -234,7 +278,7 @@ pub fn confirm_short() {
     for (length, new_threads, steps) in [(2, 2, 3), (3, 2, 3), (4, 2, 2), (5, 1, 2)] {
         let mut tally = Tally::default();
         for events in every(length, 1).iter().filter(|e| e.len() == length) {
-            all_of(events, new_threads, steps, &mut tally);
+            all_of(events, &additions(events, new_threads), steps, &mut tally);
         }
         tally.print(&format!(
             "all recordings of {length} events, all lengthenings by up to {steps} events, \
@@ -254,6 +298,37 @@ pub fn confirm_short() {
         some_of(&events, 1, 10, &mut chance, &mut tally);
     }
     tally.print("those of up to 5 events with 2 locks and re-entry, lengthenings at random");
+}
+
+/// The confirmations with forks and joins among the added events: for every recording of at most 4
+/// events by 2 threads with 1 lock, and for the short ones of group 10.
+pub fn confirm_forks() {
+    let mut chance = Chance::new(13);
+    for (length, new_threads, steps) in [(2, 2, 2), (3, 2, 2), (4, 2, 2)] {
+        let mut tally = Tally::default();
+        for events in every(length, 1).iter().filter(|e| e.len() == length) {
+            let added = additions_with_forks(events, new_threads);
+            all_of(events, &added, steps, &mut tally);
+        }
+        tally.print(&format!(
+            "all recordings of {length} events, all lengthenings by up to {steps} events with forks \
+             and joins, {new_threads} new threads"
+        ));
+    }
+    let short = [families::every(4, false), families::every(4, true)].concat();
+    for by_two in [true, false] {
+        let mut tally = Tally::default();
+        for events in short.iter().filter(|e| (count_threads(e) <= 2) == by_two) {
+            let added = additions_with_forks(events, 1);
+            all_of(events, &added, 1, &mut tally);
+            some_of(events, 2, 20, &mut chance, &mut tally);
+        }
+        let who = if by_two { "at most two" } else { "three" };
+        tally.print(&format!(
+            "the short recordings of group 10 by {who} threads, all lengthenings by 1 event with \
+             forks and joins, and some by 2 and 3"
+        ));
+    }
 }
 
 /// How many lengthenings of a random recording are tried: few where visiting every correct

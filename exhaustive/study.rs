@@ -5,6 +5,7 @@ use crate::enumerate::{all_correct, correct_merges, every_correct};
 use crate::holds::{freed_by_first, has_reentry, without_inner};
 use crate::recording::{count_threads, Event, Recording};
 use crate::rules::{brings_next, cone, conflicting, correct, is_candidate, shown, List};
+use crate::threads::{fork_of, has_event, has_fork_or_join, told_by_cells, without_forks, Told};
 
 /// Up to so many events by up to so many threads every correct reordering is listed.
 pub const SHORT: usize = 9;
@@ -47,6 +48,7 @@ impl Study {
             .map(|pair| study_pair(events, lists.as_deref(), predictable.as_deref(), pair))
             .collect();
         check_inner(events, &pairs, visited);
+        check_forks(events, &pairs, visited);
         Study {
             threads,
             pairs,
@@ -106,7 +108,7 @@ fn all_but(events: &[Event], open: &[(usize, usize)]) -> Vec<(usize, usize)> {
 
 /// The predictable races of a longer recording by two threads. A list that brings both next has
 /// exactly the events before a and those before b in their threads, so that every such list is
-/// one of the merges of the two.
+/// one of the merges of the two; where a fork is lacking, none is.
 fn predictable_by_two(events: &[Event]) -> Vec<(usize, usize)> {
     let mut found = conflicting_pairs(events);
     found.retain(|(a, b)| {
@@ -115,7 +117,8 @@ fn predictable_by_two(events: &[Event]) -> Vec<(usize, usize)> {
             e > 0 && (e < *a && thread(e) == thread(*a) || e < *b && thread(e) == thread(*b))
         };
         let inside: Vec<bool> = (0..=events.len()).map(before).collect();
-        !correct_merges(events, &inside, thread(*a)).is_empty()
+        let merges = correct_merges(events, &inside, thread(*a));
+        merges.iter().any(|list| brings_next(events, list, *a, *b))
     });
     found
 }
@@ -202,6 +205,51 @@ fn check_inner(events: &[Event], pairs: &[Pair], visited: bool) {
 /// Whether some pair would have another verdict or list if the first release gave a lock back.
 pub fn depends_on_depth(events: &[Event]) -> bool {
     let read = freed_by_first(events);
+    conflicting_pairs(events)
+        .into_iter()
+        .any(|(a, b)| shown_by_merges(events, a, b) != shown_by_merges(&read, a, b))
+}
+
+/// With cells that stand for forks and joins the old rules decide, and each pair must have the same
+/// verdict and list, and be predictable or not as before.
+fn check_forks(events: &[Event], pairs: &[Pair], visited: bool) {
+    if !has_fork_or_join(events) {
+        return;
+    }
+    let told = told_by_cells(events, None);
+    let visited = visited && told.events.len() <= SHORT + 1;
+    let predictable = visited.then(|| predictable_pairs(&told.events));
+    for pair in pairs {
+        let (a, b) = (pair.a, pair.b);
+        assert_eq!(
+            pair.shown,
+            shown_by_cells(events, a, b),
+            "{events:?} {a} {b}"
+        );
+        if let Some(predictable) = &predictable {
+            let found = predictable.contains(&(told.numbers[a], told.numbers[b]));
+            assert_eq!(pair.predictable, Some(found), "{events:?} {a} {b}");
+        }
+    }
+}
+
+/// The reordering shown where cells stand for forks and joins, in the recording's own numbers. If
+/// b is its thread's first event, and a's thread forks that thread before a, rule (i) has the fork
+/// already. A read of its cell would only stand among the others and hold them to its place.
+fn shown_by_cells(events: &[Event], a: usize, b: usize) -> Option<List> {
+    let thread = |e: usize| events[e - 1].thread;
+    let first = !has_event(&events[..b - 1], thread(b).into());
+    let by_a = |f: usize| f < a && thread(f) == thread(a);
+    let left_out = first && fork_of(events, events[b - 1]).is_some_and(by_a);
+    let Told { events, numbers } = told_by_cells(events, left_out.then(|| thread(b)));
+    let list = shown_by_merges(&events, numbers[a], numbers[b])?;
+    let own = |e: &usize| numbers.iter().position(|number| number == e);
+    Some(list.iter().filter_map(own).collect())
+}
+
+/// Whether some pair would have another verdict or list if there were no rules of forks and joins.
+pub fn depends_on_forks(events: &[Event]) -> bool {
+    let read = without_forks(events);
     conflicting_pairs(events)
         .into_iter()
         .any(|(a, b)| shown_by_merges(events, a, b) != shown_by_merges(&read, a, b))

@@ -4,11 +4,13 @@
 
 use crate::recording::{Event, Kind, Recording};
 
-const KINDS: [(Kind, &str); 4] = [
+const KINDS: [(Kind, &str); 6] = [
     (Kind::Read, "read"),
     (Kind::Write, "write"),
     (Kind::Acquire, "acquire"),
     (Kind::Release, "release"),
+    (Kind::Fork, "fork"),
+    (Kind::Join, "join"),
 ];
 
 /// The text; an empty preamble has no note line.

@@ -22,10 +22,10 @@ pub const Z: &str = "0w1 0+0 0w0 0-0 1+0 1+0 1r1 1r0 1-0 1-0";
 pub const ALL: [&str; 10] = [Q, R, S, T, U, V, W, X, Y, Z];
 
 /// A reported pair with the list shown for it.
-type Race<'a> = (usize, usize, &'a [usize]);
+pub type Race<'a> = (usize, usize, &'a [usize]);
 
 /// Writes a recording down; asserts its reported pairs with what is shown for them.
-fn put(book: &mut Book, title: &str, text: &str, races: &[Race]) {
+pub fn put(book: &mut Book, title: &str, text: &str, races: &[Race]) {
     book.title(title);
     book.recording(&file(&[], &told(text)));
     let study = book.study().expect("a good recording");

@@ -1,12 +1,15 @@
-//! Group 8: askings of the writer (request One), with re-entry too (request Three).
+//! Group 8: askings of the writer (request One), with re-entry too (request Three), and in group 10
+//! with forks and joins (request Five).
 
 use crate::book::Book;
 use crate::chance::Chance;
-use crate::damaged::{damages, pairs_of, Damage, Raw, DEEP_LOCKS, LOCKS, TO_DAMAGE};
+use crate::damaged::{damages, newer_damages, newer_pairs, pairs_of, Damage, Raw};
+use crate::damaged::{DEEP_LOCKS, LOCKS, TO_DAMAGE};
 use crate::holds::has_reentry;
 use crate::preambles::{long, placed, spoiled_places, EDGES};
 use crate::questions::AREA;
 use crate::recording::{file, told, w, Recording};
+use crate::unforked;
 use crate::worked::{Q, V};
 use crate::writer::Handed;
 
@@ -77,6 +80,29 @@ fn short_and_random(book: &mut Book) {
     with_preambles(book, 8, &["group 3:", "group 4:", "group 4, longer"]);
     book.title("short and random recordings with re-entry, likewise");
     with_preambles(book, 89, &["group 3, re-entry", "group 4, re-entry"]);
+}
+
+/// Group 10: the refusals of request Five, and good recordings with forks and joins.
+pub fn forks_and_joins(book: &mut Book) {
+    book.group("group 10, the writer: forks and joins handed to it");
+    for case in unforked::handed_cases() {
+        let whole = case.file_length();
+        book.ask_writer(&case, whole);
+        book.ask_writer(&case, whole - 1);
+    }
+    book.title("two damages at once, one of 15, 16, 17 or an unknown kind");
+    for raw in newer_pairs(&damages_handed_in()) {
+        book.ask_writer(&handed(&raw), MOST);
+    }
+    book.title("worked examples, document 002, short and random recordings with preambles");
+    for recording in good_of(book, &["group 10:", "group 10, document"]) {
+        let handed = Handed::of(&recording);
+        book.ask_writer(&handed, handed.file_length());
+    }
+    let groups = ["group 10, short", "group 10, random", "group 10, longer"];
+    with_preambles(book, 108, &groups);
+    forks_at_random(book);
+    write_and_read(book, &Handed::new(b"edges", &told("15f0 0f14 14j13 15j0")));
 }
 
 fn with_preambles(book: &mut Book, seed: u64, groups: &[&str]) {
@@ -213,7 +239,7 @@ fn with_a_fault(handed: &Handed) -> Vec<Handed> {
 fn at_edges(event: [u8; 4]) -> Vec<[u8; 4]> {
     let [thread, kind, low, high] = event;
     let threads = [0, 15, 16, 17, 255].map(|t| [t, kind, low, high]);
-    let kinds = [0, 1, 2, 3, 4, 5, 6, 255].map(|k| [thread, k, low, high]);
+    let kinds = [0, 1, 2, 3, 4, 5, 6, 7, 255].map(|k| [thread, k, low, high]);
     let objects = [0u16, 255, 256, 257, 511, 32768, 65280, 65535];
     let objects = objects.map(|o| [thread, kind, o as u8, (o >> 8) as u8]);
     [&threads[..], &kinds, &objects].concat()
@@ -259,14 +285,16 @@ fn handed(raw: &Raw) -> Handed {
 
 fn two_at_once(book: &mut Book) {
     book.title("two damages at once: 1, 3, 13, then event by event 5, 6, 7, then 8 or 9");
-    for raw in pairs_of(&damages_handed_in()) {
+    let damages = damages_handed_in();
+    for raw in pairs_of(&damages, &damages) {
         book.ask_writer(&handed(&raw), MOST);
     }
 }
 
 /// Each damage alone, done to the fourth event.
 fn one_at_a_time() -> Vec<Handed> {
-    let damaged = damages_handed_in().into_iter().map(|(_, damage)| {
+    let damages = damages_handed_in().into_iter().chain(newer_damages());
+    let damaged = damages.map(|(_, damage)| {
         let mut raw = Raw::new(b"night 12", &told(TO_DAMAGE));
         damage(&mut raw, 3);
         handed(&raw)
@@ -340,6 +368,26 @@ fn at_random(book: &mut Book) {
     let mut chance = Chance::new(88);
     for turn in 0..120 {
         let handed = random_handed(&mut chance, turn);
+        let whole = handed.file_length();
+        let length = chance.one_of(&[0, whole - 1, whole, whole, whole + 9]);
+        if let Some(file) = book.ask_writer(&handed, length) {
+            book.recording(&file);
+        }
+    }
+}
+
+/// The same with a fork or a join in place of every other event.
+fn forks_at_random(book: &mut Book) {
+    book.title("lists with forks and joins, preambles and buffers at random");
+    let mut chance = Chance::new(109);
+    for turn in 0..120 {
+        let mut handed = random_handed(&mut chance, turn);
+        for event in &mut handed.events {
+            if chance.percent(50) {
+                event[1] = chance.one_of(&[5, 6]);
+                event[2] = chance.one_of(&[0, 1, 2, 3, 4, 15, 16]);
+            }
+        }
         let whole = handed.file_length();
         let length = chance.one_of(&[0, whole - 1, whole, whole, whole + 9]);
         if let Some(file) = book.ask_writer(&handed, length) {

@@ -48,15 +48,18 @@ enum tarungkis_case {
   TARUNGKIS_MARK = 2,             /* the last two bytes are not 50 4C hex */
   TARUNGKIS_EVENT_COUNT = 3,      /* more than 512 events */
   TARUNGKIS_DISTANCE = 4,         /* the distance is not that of the first event */
-  TARUNGKIS_KIND = 5,             /* an event's kind is not 1 to 4 [event] */
+  TARUNGKIS_KIND = 5,             /* an event's kind is not 1 to 6 [event] */
   TARUNGKIS_THREAD = 6,           /* an event's thread is above 15 [event] */
-  TARUNGKIS_OBJECT = 7,           /* an event's cell or lock is above 255 [event] */
+  TARUNGKIS_OBJECT = 7,           /* an event's cell or lock is above 255, or the thread of a fork or join above 15 [event] */
   TARUNGKIS_LOCK_HELD = 8,        /* an acquire of a lock that another thread holds [event] */
   TARUNGKIS_NOT_HOLDER = 9,       /* a release of a lock that its thread does not hold [event] */
   TARUNGKIS_LIST_SHORT = 10,      /* the lent list or buffer is too short; the writer: or the lists have different lengths */
   TARUNGKIS_NOT_CONFLICTING = 11, /* a and b are not two conflicting accesses, the lower first */
   TARUNGKIS_AREA_SHORT = 12,      /* the work area has fewer than 65,536 bytes */
   TARUNGKIS_PREAMBLE = 13,        /* the preamble has a byte that is neither 0A nor 20 to 7E hex */
+  TARUNGKIS_SELF_OR_SECOND = 15,  /* a fork or join of the event's own thread, or a second fork of one thread [event] */
+  TARUNGKIS_ALREADY_BEGUN = 16,   /* a fork of a thread that already has an event [event] */
+  TARUNGKIS_ALREADY_JOINED = 17,  /* an event of a joined thread [event] */
 
   TARUNGKIS_GOOD = 100,             /* question 1 [events, threads] */
   TARUNGKIS_WRITE = 101,            /* question 2: the write that the event sees [event] */
@@ -68,7 +71,7 @@ enum tarungkis_case {
   TARUNGKIS_RACE = 107,             /* question 4 [lower event, higher event] */
   TARUNGKIS_NO_RACE = 108,          /* question 4: none after that pair */
   TARUNGKIS_YES = 109,              /* question 5: a correct reordering that brings both next */
-  TARUNGKIS_NO = 110,               /* question 5: it is not [fault, 21 to 26] */
+  TARUNGKIS_NO = 110,               /* question 5: it is not [fault, 21 to 27] */
   TARUNGKIS_NOTE_IN_FILE = 111,     /* question 6: the note is the file's first bytes [bytes]; 0 for a refused file */
   TARUNGKIS_NOTE_OF_OPERATOR = 112, /* question 6: the file has none, so the operator's own note is it */
   TARUNGKIS_WRITTEN = 113           /* the writer [bytes] */
@@ -80,8 +83,9 @@ enum tarungkis_fault {
   TARUNGKIS_NOT_NEXT = 22,           /* an entry is not the next event of its thread, or stands twice */
   TARUNGKIS_SEES_OTHERWISE = 23,     /* a read does not see what it saw in the recording */
   TARUNGKIS_HELD_BY_ANOTHER = 24,    /* an acquire of a lock that another thread holds then */
-  TARUNGKIS_LOWER_NOT_ENABLED = 25,  /* behind the list a is not the next event of its thread */
-  TARUNGKIS_HIGHER_NOT_ENABLED = 26  /* b is not */
+  TARUNGKIS_LOWER_NOT_ENABLED = 25,  /* behind the list a is not the next event of its thread, or its thread's fork is not in it */
+  TARUNGKIS_HIGHER_NOT_ENABLED = 26, /* b is not, or that of its thread */
+  TARUNGKIS_NOT_READY = 27           /* an event stands before its thread's fork, or a join before an event of the joined thread */
 };
 
 /* The entry of tarungkis_observed_writes for what is not a read. An entry 0 is the start; any other is the number of the write. */
@@ -89,7 +93,7 @@ enum tarungkis_fault {
 
 /* ---- the questions. `file` is a recording's bytes; events are numbered from 1. */
 
-/* Question 1: is it good? TARUNGKIS_GOOD, or refusals 1 to 9 and 13, which every question gives first. */
+/* Question 1: is it good? TARUNGKIS_GOOD, or refusals 1 to 9, 13 and 15 to 17, which every question gives first. */
 uint64_t tarungkis_judge(const uint8_t *file, size_t file_bytes);
 
 /* Question 2: which write does event k see? TARUNGKIS_WRITE, TARUNGKIS_START or TARUNGKIS_NOT_A_READ, for any k. */
@@ -115,7 +119,7 @@ uint64_t tarungkis_check_reordering(const uint8_t *file, size_t file_bytes, uint
 /* Question 6: where is the recording's note? TARUNGKIS_NOTE_IN_FILE, the front of the file, or TARUNGKIS_NOTE_OF_OPERATOR. */
 uint64_t tarungkis_note(const uint8_t *file, size_t file_bytes);
 
-/* ---- the writer: the recording of a preamble and of events, whose threads, kinds and objects (cells or locks) are in three lists of one length.
+/* ---- the writer: the recording of a preamble and of events, whose threads, kinds and objects (cells, locks or threads) are in three lists of one length.
  * TARUNGKIS_WRITTEN, and the recording is in the buffer's front; the bytes behind it are left as they were. Or refusal 10 where the lists differ in
  * length, then what reading the recording would give, then 10 where the buffer is shorter than it (4,096 bytes are always enough). */
 uint64_t tarungkis_write_file(const uint8_t *preamble, size_t preamble_bytes, const uint8_t *threads, size_t thread_entries, const uint8_t *kinds,

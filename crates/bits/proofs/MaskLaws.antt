@@ -1,13 +1,15 @@
 -- What a mask holds, and how many ones it has, after a number is put in.
 use mathlib.Core.Path.{_≡_, refl, ap, sym, _∙_}
 use mathlib.Core.Bool.{true, false}
-use Prim.Native.Nat.{ℕ, zero, suc, _+_, _*_, _/_, _%_, _^_, _<_}
+use Prim.Native.Nat.{ℕ, zero, suc, _+_, _*_, _/_, _%_, _^_, _≤_, _<_}
 use native.Mathlib.Omega.{arith}
-use native.Mathlib.Nat.{mod-eq-of-lt, one-mul, pow-succ', div-div-eq-div-mul, mul-div-right, mul-mod-right, div-eq-of-lt, div-one, mod-lt}
+use native.Mathlib.Nat.{mod-eq-of-lt, one-mul, pow-succ', div-div-eq-div-mul, mul-div-right, mul-mod-right, div-eq-of-lt, div-one, mod-lt, lt-of-lt-of-le}
 use lib.Dec.{eqb, lit<}
-use lib.Pow.{pow-lt, pow-pos}
+use lib.Pow.{pow-lt, pow-pos, pow-mono}
 use lib.Bits.{bitOr, or-shr, or-mod, or-zero-r}
 use lib.Count.{ones, ones-step}
+use mir.Val.{Fits}
+use mir.Syntax.{w16}
 use borrow.Author.Tests.{eq-eqb, eqb-true, eqb-false}
 use Rattle.bits.specs.Mask.{bit, holds, including}
 
@@ -78,6 +80,20 @@ ones-or (suc x) m =
     let p = ones-step m in
     let q = ones-step (bitOr m (2 ^ suc x)) in
     omega arith
+
+-- ---- the ways through `contains`
+
+pub bit-test : (m x : ℕ) → eqb (bit m x) 1 ≡ holds m x
+unfolding holds
+bit-test m x = refl
+
+-- nothing above the width
+pub none-above : (m x : ℕ) → Fits w16 m → 16 ≤ x → false ≡ holds m x
+unfolding holds
+none-above m x f h =
+    let l = f .fits in
+    let p : 2 ^ 16 ≤ 2 ^ x = pow-mono h in
+    rw (div-eq-of-lt (lt-of-lt-of-le l p))
 
 -- ---- what callers use
 

@@ -2,7 +2,7 @@
 ghost use mathlib.Core.Path.{_≡_};
 ghost use Prim.Native.Nat.{_<_};
 ghost use lib.ListN.{length, replicate};
-ghost use Rattle.bits.specs.Mask.{including};
+ghost use Rattle.bits.specs.Mask.{holds, including};
 
 // The set with x in it too. How many numbers a set has is its count of ones.
 pub fn include(mask: u16, x: u8) -> u16
@@ -10,6 +10,16 @@ pub fn include(mask: u16, x: u8) -> u16
     ensures { λ r. ⌜ r ≡ including mask x ⌝ }
 {
     mask | (1u16 << x)
+}
+
+// Is x in the set?
+pub fn contains(mask: u16, x: usize) -> bool
+    ensures { λ r. ⌜ r ≡ holds mask x ⌝ }
+{
+    if 16 <= x {
+        return false;
+    }
+    (mask >> x) % 2 == 1
 }
 
 // Every byte becomes zero.

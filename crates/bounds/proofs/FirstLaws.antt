@@ -1,37 +1,44 @@
--- What an event of Q needs by what it observed or overwrote: the ways through the steps, and the pass.
+-- What an event of Q needs by what it waits for, observed or overwrote: the ways through the steps, and the pass.
 use Prim.Native.Nat.{ℕ, suc, _+_, _≤_, _<_, zero-le}
 use native.Mathlib.Omega.{arith}
 use native.Mathlib.Numerals.{add-one}
 use mathlib.Core.Path.{_≡_, refl, sym, _∙_, ap}
 use mathlib.Core.Logic.{_≢_, _⊎_, inl, inr, ⊎-elim}
-use mathlib.Core.Bool.{Bool, true, false, cond, _&&_, not}
+use mathlib.Core.Bool.{Bool, true, false, _&&_, not}
 use mathlib.Core.List.{List, _∷_, List·Memᴰ·head, List·Memᴰ·not-nil}
 use lib.ListN.{length, getD, set, replicate, length-set}
 use lib.Seq.{getD-set-same, getD-set-other}
 use lib.Dec.{eqb, ltb}
-use borrow.Author.Tests.{eqb-true, eqb-false, eq-eqb, ne-eqb, ltb-true, lt-ltb, not-true}
-use Rattle.model.specs.Trace.{Trace, Valid, read, write, threadOf, kindOf, objectOf, does}
+use borrow.Author.Tests.{eqb-true, eqb-false, eq-eqb, ne-eqb, ltb-true, lt-ltb, le-ltb, not-true}
+use Rattle.model.specs.Trace.{Trace, Valid, read, write, fork, join, threadOf, kindOf, objectOf, does}
 use Rattle.model.specs.Lists.{_∈_, nearest, listed, just, passed}
 use Rattle.model.specs.Observed.{observed}
-use Rattle.model.specs.Good.{maxObject}
-use Rattle.model.proofs.Tests.{by-cases, in-cons, clash, both, false-test, does-true, true-does, just-true}
+use Rattle.model.specs.Good.{Good, maxObject}
+use Rattle.model.specs.Awaits.{Awaits, forked, joined}
+use Rattle.model.proofs.Tests.{by-cases, in-cons, clash, both, false-test, does-true, true-does, just-true, object-small}
 use Rattle.model.proofs.Lists.{getD-mem, reverse-mem, nearest-mem, nearest-passes, mem-listed, listed-mem}
 use Rattle.model.proofs.Passed.{passed-suc, passed-all, passed-in, passed-below, below-passed, passed-last}
+use Rattle.decision.specs.Rounds.{isObserved}
 use Rattle.decision.specs.Stairs.{isOverwriting}
+use Rattle.decision.proofs.CheckExact.{awaited-true, true-awaited}
 use Rattle.decision.proofs.IntervalTests.{observed-true, true-observed}
 use Rattle.stairs.specs.Stairs.{at}
 use Rattle.table.specs.Table.{trace}
-use Rattle.table.specs.Links.{observedBy}
+use Rattle.table.specs.Links.{waitsFor, forkOf}
 use Rattle.table.specs.Entries.{Entries}
-use Rattle.table.proofs.LinkFacts.{observed-less, reads-observed, observed-reads}
+use Rattle.table.proofs.LinkFacts.{waits-less, waits-cases, reads-observed, joined-last, joined-thread, fork-less, fork-on, fork-only}
 use Rattle.table.proofs.EntryLaws.{entries-new, entries-same, entries-put}
 use Rattle.bounds.specs.Parts.{Parts}
 use Rattle.bounds.specs.Bounds.{isOwn, Last, Given, Needed}
-use Rattle.bounds.specs.Steps.{isOutside, lastRead, withRead, Reading, Read, firstBound, First}
+use Rattle.bounds.specs.Steps.{isOutside, lastRead, withRead, Reading, Read, ownEvent, actionBound, firstBound, First}
 use Rattle.bounds.proofs.EndLaws.{true-own}
+use Rattle.bounds.proofs.LastLaws.{last-map, last-two}
 
-pub observed-few : (t : Trace) (e : ℕ) → Valid t e → (w : ℕ) → w ≡ observedBy t e → w ≤ length t
-observed-few t e v w q = let l = observed-less t e (v .positive) in let b = v .bounded in omega arith
+pub waits-few : {t : Trace} → Good t → (e : ℕ) → Valid t e → (w : ℕ) → w ≡ waitsFor t e → w ≤ length t
+waits-few {t} g e v w q = let l = waits-less t (g .well-formed) e v in let b = v .bounded in omega arith
+
+pub fork-few : (t : Trace) (e : ℕ) → Valid t e → (w : ℕ) → w ≡ forkOf t e → w ≤ length t
+fork-few t e v w q = let l = fork-less t e (v .positive) in let b = v .bounded in omega arith
 
 pub own-true : (t : Trace) (m w : ℕ) → isOwn t m w ≡ true → (w ≢ 0) × (threadOf t w ≡ m)
 unfolding isOwn
@@ -46,7 +53,7 @@ module _ (t : Trace) (m e q : ℕ) (eq : q ≡ kindOf t e) where
   unfolding isOutside
   outside-no-read ne = rw (ne-eqb (kindOf t e) read (λ z. ne (eq ∙ z)))
 
-  pub outside-read : q ≡ read → (w : ℕ) → w ≡ observedBy t e → (b : Bool) → b ≡ isOwn t m w → not b ≡ isOutside t m e
+  pub outside-read : q ≡ read → (w : ℕ) → w ≡ waitsFor t e → (b : Bool) → b ≡ isOwn t m w → not b ≡ isOutside t m e
   unfolding isOutside
   outside-read r w ew b eb =
       let d : kindOf t e ≡ read = sym eq ∙ r in
@@ -85,7 +92,7 @@ module _ {s : List ℕ} {m : ℕ} {P : List ℕ} {k i : ℕ} {seen : List ℕ} (
     knows-more =
         let g = p .links .good in
         by-cases (isOutside t m e)
-        (λ o. rw o (entries-put (p .knows) (lastRead t m (e ∷ passed P i)) (objectOf t e) e (g .object-limit e reading-valid) (rw (o, eq-eqb (objectOf t e) (objectOf t e) refl)) (λ y ne. rw (o, ne-eqb (objectOf t e) y (λ z. ne (sym z))))))
+        (λ o. rw o (entries-put (p .knows) (lastRead t m (e ∷ passed P i)) (objectOf t e) e (object-small t g e reading-valid) (rw (o, eq-eqb (objectOf t e) (objectOf t e) refl)) (λ y ne. rw (o, ne-eqb (objectOf t e) y (λ z. ne (sym z))))))
         (λ o. rw o (entries-same (p .knows) (lastRead t m (e ∷ passed P i)) (λ y. rw o)))
 
     pub reading-more : e < k → {seen′ : List ℕ} → seen′ ≡ withRead (trace s) m e seen → Reading s m P k (i + 1) seen′
@@ -100,21 +107,35 @@ module _ {s : List ℕ} {m : ℕ} {P : List ℕ} {k i : ℕ} {seen : List ℕ} (
           knows = rw a knows-more;
         })
 
--- ---- `first_bound`
+-- ---- `own_event`, `action_bound` and `first_bound`
 
-module _ (t : Trace) (m k : ℕ) (seen : List ℕ) (q : ℕ) (eq : q ≡ kindOf t k) where
-  pub first-write : q ≡ write → (x : ℕ) → x ≡ objectOf t k → getD seen x 0 ≡ firstBound t m k seen
-  unfolding firstBound
-  first-write e x ex = let d : kindOf t k ≡ write = sym eq ∙ e in rw (eq-eqb _ _ d, ex)
+module _ (t : Trace) (m w : ℕ) (b : Bool) (eb : b ≡ isOwn t m w) where
+  pub event-own : b ≡ true → w ≡ ownEvent t m w
+  unfolding ownEvent
+  event-own i = rw (← eb, i)
 
-  module _ (nw : q ≡ write → ⊥) (w : ℕ) (ew : w ≡ observedBy t k) (b : Bool) (eb : b ≡ isOwn t m w) where
-    pub first-own : b ≡ true → w ≡ firstBound t m k seen
+  pub event-none : b ≡ false → 0 ≡ ownEvent t m w
+  unfolding ownEvent
+  event-none i = rw (← eb, i)
+
+module _ (t : Trace) (m k : ℕ) (seen : List ℕ) where
+  module _ (q : ℕ) (eq : q ≡ kindOf t k) where
+    pub action-write : q ≡ write → (x : ℕ) → x ≡ objectOf t k → getD seen x 0 ≡ actionBound t m k seen
+    unfolding actionBound
+    action-write e x ex = let d : kindOf t k ≡ write = sym eq ∙ e in rw (eq-eqb _ _ d, ex)
+
+    pub action-waits : (q ≡ write → ⊥) → (w : ℕ) → w ≡ waitsFor t k → (r : ℕ) → r ≡ ownEvent t m w → r ≡ actionBound t m k seen
+    unfolding actionBound
+    action-waits nw w ew r er = er ∙ rw (ne-eqb (kindOf t k) write (λ z. nw (eq ∙ z)), ← ew)
+
+  module _ (a : ℕ) (ea : a ≡ actionBound t m k seen) (w : ℕ) (ew : w ≡ forkOf t k) (f : ℕ) (ef : f ≡ ownEvent t m w) where
+    pub first-fork : a < f → f ≡ firstBound t m k seen
     unfolding firstBound
-    first-own i = rw (ne-eqb (kindOf t k) write (λ z. nw (eq ∙ z)), ← ew, ← eb, i)
+    first-fork h = rw (← ea, ← ew, ← ef, lt-ltb a f h)
 
-    pub first-none : b ≡ false → 0 ≡ firstBound t m k seen
+    pub first-action : f ≤ a → a ≡ firstBound t m k seen
     unfolding firstBound
-    first-none i = rw (ne-eqb (kindOf t k) write (λ z. nw (eq ∙ z)), ← ew, ← eb, i)
+    first-action h = rw (← ea, ← ew, ← ef, le-ltb a f h)
 
 -- ---- what it is
 
@@ -131,11 +152,22 @@ module _ (s : List ℕ) {m : ℕ} {P Q : List ℕ} (g : Parts (trace s) m P Q) w
   in-own : (w : ℕ) → w ∈ P → isOwn t₁ m w ≡ true
   in-own w n = let p = g .moved w n .positive in true-own t₁ m w (λ z. let u : ⊥ = omega arith in u) (g .moved-thread w n)
 
+  -- an awaited event is P's own exactly when it is of the moved thread
+  own-awaited : (k j : ℕ) → k ∈ Q → Awaits t₁ k j → threadOf t₁ j ≡ m → j ∈ P
+  own-awaited k j n a e = ⊎-elim (λ i. i) (λ i. absurd (g .others-thread j i e)) (g .awaited j k (inr n) a)
+
+  -- what event k of Q needs by its own action: p is observed, or overwritten, or an event of the thread that k joins
+  abbrev Acts : ℕ → ℕ → Type 0
+  Acts p k = ((kindOf t₁ k ≡ join) × (threadOf t₁ p ≡ objectOf t₁ k)) ⊎ ((isObserved t₁ k p ≡ true) ⊎ (isOverwriting t₁ P p k ≡ true))
+
   module _ {k i : ℕ} {seen : List ℕ} (n : k ∈ Q) (r : Read s m P k i seen) where
-    written : kindOf t₁ k ≡ write → Last P (λ p. First t₁ P p k) (lastRead t₁ m (passed P i) (objectOf t₁ k))
+    written : kindOf t₁ k ≡ write → Last P (λ p. Acts p k) (lastRead t₁ m (passed P i) (objectOf t₁ k))
     unfolding isOverwriting isOutside
     written d = record {
       above = λ p i₁ f.
+          ⊎-elim
+          (λ o. let z = o .0 in absurd (omega arith))
+          (λ f₁.
           ⊎-elim
           (λ o. let z = observed-true t₁ k p o .0 in absurd (omega arith))
           (λ o.
@@ -147,6 +179,7 @@ module _ (s : List ℕ) {m : ℕ} {P Q : List ℕ} (g : Parts (trace s) m P Q) w
           let x : objectOf t₁ p ≡ objectOf t₁ k = sym (does-true t₁ write (objectOf t₁ p) k (c .0) .1) in
           passed-last (λ e. isOutside t₁ m e && eqb (objectOf t₁ e) (objectOf t₁ k)) P i p (g .moved-up) (r .all p i₁ (ltb-true p k (c .1)))
           (rw (b .0, out, eq-eqb _ _ x)))
+          f₁)
           f;
       from =
           by-cases (eqb (lastRead t₁ m (passed P i) (objectOf t₁ k)) 0)
@@ -161,37 +194,82 @@ module _ (s : List ℕ) {m : ℕ} {P Q : List ℕ} (g : Parts (trace s) m P Q) w
           let o = both (eqb (kindOf t₁ e) read) (not (isOwn t₁ m (observed t₁ e))) (y .0) in
           let out : listed (observed t₁ e) P ≡ false = false-test (λ a. in-own _ (listed-mem (observed t₁ e) P a)) (λ a. clash a (not-true _ (o .1))) in
           let x : objectOf t₁ k ≡ objectOf t₁ e = sym (eqb-true _ _ (y .1)) in
-          inr (in-P, inr (rw (o .0, out, true-does t₁ write (objectOf t₁ e) k d x, lt-ltb e k (r .reading .below e in-h)))));
+          inr (in-P, inr (inr (rw (o .0, out, true-does t₁ write (objectOf t₁ e) k d x, lt-ltb e k (r .reading .below e in-h))))));
     }
 
-    observing : kindOf t₁ k ≢ write → Last P (λ p. First t₁ P p k) (cond (isOwn t₁ m (observedBy t₁ k)) (observedBy t₁ k) 0)
-    unfolding isOverwriting
-    observing d = record {
+    waiting : kindOf t₁ k ≢ write → Last P (λ p. Acts p k) (ownEvent t₁ m (waitsFor t₁ k))
+    unfolding isOverwriting ownEvent
+    waiting d = record {
       above = λ p i₁ f.
           ⊎-elim
           (λ o.
+          let low = joined-last t₁ k p (o .0) (g .moved p i₁) (o .1) in
+          let one = g .moved p i₁ .positive in
+          let nz : waitsFor t₁ k ≢ 0 = λ z. let u : ⊥ = omega arith in u in
+          let own = true-own t₁ m (waitsFor t₁ k) nz (joined-thread t₁ k (o .0) nz ∙ sym (o .1) ∙ g .moved-thread p i₁) in
+          rw own low)
+          (λ f₁.
+          ⊎-elim
+          (λ o.
           let a = observed-true t₁ k p o in
-          let e : observedBy t₁ k ≡ p = reads-observed t₁ k (a .0) ∙ a .1 in
+          let e : waitsFor t₁ k ≡ p = reads-observed t₁ k (a .0) ∙ a .1 in
           rw (e, in-own p i₁) (omega arith))
           (λ o.
           let a = both (eqb (kindOf t₁ p) read && not (listed (observed t₁ p) P)) _ o in
           absurd (d (does-true t₁ write (objectOf t₁ p) k (both (does t₁ write (objectOf t₁ p) k) (ltb p k) (a .1) .0) .0)))
+          f₁)
           f;
       from =
-          by-cases (isOwn t₁ m (observedBy t₁ k))
+          by-cases (isOwn t₁ m (waitsFor t₁ k))
           (λ z.
-          let y = own-true t₁ m (observedBy t₁ k) z in
-          let a = observed-reads t₁ k (y .0) in
-          rw z (inr (rw (a .1) at (own-in k (inr n) (a .0) (rw (a .1) z)), inl (true-observed t₁ k (observedBy t₁ k) (a .0) (a .1)))))
+          let y = own-true t₁ m (waitsFor t₁ k) z in
+          rw z
+          (⊎-elim
+          (λ a. inr (rw (a .1) at (own-in k (inr n) (a .0) (rw (a .1) z)), inr (inl (true-observed t₁ k (waitsFor t₁ k) (a .0) (a .1)))))
+          (λ a. inr (own-awaited k (waitsFor t₁ k) n (a .1) (y .1), inl (a .0, joined-thread t₁ k (a .0) (y .0))))
+          (waits-cases t₁ k (y .0))))
+          (λ z. rw z (inl refl));
+    }
+
+    acting : Last P (λ p. Acts p k) (actionBound t₁ m k seen)
+    unfolding actionBound
+    acting =
+        by-cases (eqb (kindOf t₁ k) write)
+        (λ e. let l = object-small t₁ (r .reading .links .good) k (g .others k n) in rw (e, r .reading .knows .is (objectOf t₁ k) l) (written (eqb-true _ _ e)))
+        (λ e. rw e (waiting (eqb-false _ _ e)))
+
+    forking : Last P (λ p. does t₁ fork (threadOf t₁ k) p ≡ true) (ownEvent t₁ m (forkOf t₁ k))
+    unfolding ownEvent
+    forking = record {
+      above = λ p i₁ f.
+          let d = does-true t₁ fork (threadOf t₁ k) p f in
+          let e : forkOf t₁ k ≡ p = fork-only t₁ (r .reading .links .good .well-formed) k (g .others k n) p (d .0) (d .1) in
+          rw (e, in-own p i₁) (omega arith);
+      from =
+          by-cases (isOwn t₁ m (forkOf t₁ k))
+          (λ z.
+          let y = own-true t₁ m (forkOf t₁ k) z in
+          let d = fork-on t₁ k (y .0) in
+          rw z (inr (own-awaited k (forkOf t₁ k) n (forked (d .0) (d .1)) (y .1), true-does t₁ fork (threadOf t₁ k) (forkOf t₁ k) (d .0) (d .1))))
           (λ z. rw z (inl refl));
     }
 
     first-is : Last P (λ p. First t₁ P p k) (firstBound t₁ m k seen)
     unfolding firstBound
-    first-is =
-        by-cases (eqb (kindOf t₁ k) write)
-        (λ e. let l = r .reading .links .good .object-limit k (g .others k n) in rw (e, r .reading .knows .is (objectOf t₁ k) l) (written (eqb-true _ _ e)))
-        (λ e. rw e (observing (eqb-false _ _ e)))
+    first-is = last-map to from (last-two (actionBound t₁ m k seen) (ownEvent t₁ m (forkOf t₁ k)) acting forking)
+      where
+        to : (p : ℕ) → p ∈ P → Acts p k ⊎ (does t₁ fork (threadOf t₁ k) p ≡ true) → First t₁ P p k
+        to p i₁ (inl (inl a)) = inl (true-awaited t₁ k p (joined (a .0) (g .moved p i₁) (a .1)))
+        to p i₁ (inl (inr a)) = inr a
+        to p i₁ (inr a) = let d = does-true t₁ fork (threadOf t₁ k) p a in inl (true-awaited t₁ k p (forked (d .0) (d .1)))
+
+        awaits : (p : ℕ) → Awaits t₁ k p → Acts p k ⊎ (does t₁ fork (threadOf t₁ k) p ≡ true)
+        awaits p (forked f o) = inr (true-does t₁ fork (threadOf t₁ k) p f o)
+        awaits p (joined f v o) = inl (inl (f, o))
+
+        from : (p : ℕ) → p ∈ P → First t₁ P p k → Acts p k ⊎ (does t₁ fork (threadOf t₁ k) p ≡ true)
+        from p i₁ (inl a) = awaits p (awaited-true t₁ k p a)
+        from p i₁ (inr a) = inl (inr a)
 
 -- ---- `add_first`
 

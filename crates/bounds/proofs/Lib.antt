@@ -1,6 +1,7 @@
 -- Where the intervals of P end
 pub mod EndLaws
 -- What an event of Q needs by what it observed or overwrote
+pub mod LastLaws
 pub mod FirstLaws
 -- What a write of Q needs by the reads of P that observed it
 pub mod OverLaws

@@ -14,11 +14,12 @@ use Rattle.model.specs.Lists.{_∈_, nearest, passed, listed, anyIn}
 use Rattle.model.specs.Good.{maxObject}
 use Rattle.model.specs.Sections.{isOutermost}
 use Rattle.model.specs.Cone.{matching}
-use Rattle.model.proofs.Tests.{by-cases, in-cons, clash, both, true-both, either-true, or-right, false-test}
+use Rattle.model.proofs.Tests.{by-cases, in-cons, clash, both, true-both, either-true, or-right, false-test, object-small}
 use Rattle.model.proofs.Lists.{getD-mem, reverse-mem, mem-reverse, nearest-mem, nearest-passes, any-mem, mem-any, mem-listed, listed-mem}
 use Rattle.model.proofs.Passed.{passed-suc, passed-all, passed-below, passed-last}
 use Rattle.model.proofs.SectionsExact.{outermost-acquires}
 use Rattle.model.proofs.MatchingExact.{matching-valid}
+use Rattle.decision.specs.Check.{isAwaited}
 use Rattle.decision.specs.Rounds.{isObserved}
 use Rattle.decision.specs.Stairs.{isOpening, isAlike, isWithin, isOverwriting, isReadOver, isUnended, isBound}
 use Rattle.decision.proofs.Holds.{matching-ends}
@@ -31,7 +32,8 @@ use Rattle.table.proofs.BeganFacts.{opening-began, began-opening, began-within,
 use Rattle.bounds.specs.Parts.{Parts}
 use Rattle.bounds.specs.Bounds.{endIn, Last, Bound, Given, Ended, Needed, Covers}
 use Rattle.bounds.specs.Steps.{raisedTo, FirstTwo, withSection, InSection, Sections, isOpenIn, withOpen}
-use Rattle.bounds.proofs.OverLaws.{last-map, last-two, raised-length, raised-here, raised-other}
+use Rattle.bounds.proofs.LastLaws.{last-map, last-two}
+use Rattle.bounds.proofs.OverLaws.{raised-length, raised-here, raised-other}
 
 -- ---- `note_section`
 
@@ -129,7 +131,7 @@ module _ {s : List ℕ} {m : ℕ} {P Q ends : List ℕ} {i : ℕ} {last : List �
         (λ d.
         let e : x ≡ objectOf t v = eqb-true _ _ d in
         let l = p .long in
-        let o = p .ended .given .links .good .object-limit v noting-valid in
+        let o = object-small t (p .ended .given .links .good) v noting-valid in
         rw (e, raised-here last (objectOf t v) (at ends v) (omega arith)) (with-new (objectOf t v) (last-two (at last (objectOf t v)) (at ends v) (p .is (objectOf t v) o) (last-new (eqb-true _ _ a)))))
         (λ d.
         let ne = eqb-false x (objectOf t v) d in
@@ -267,24 +269,32 @@ module _ (s : List ℕ) {m : ℕ} {P Q tops last : List ℕ} (l : Linked s) (g :
       (λ b.
       ⊎-elim
       (λ z. rw z)
-      (λ z. or-right (isObserved t₁ k p) (rw z))
+      (λ c.
+      ⊎-elim
+      (λ z. or-right (isAwaited t₁ k p) (rw z))
+      (λ z. or-right (isAwaited t₁ k p) (or-right (isObserved t₁ k p) (rw z)))
+      c)
       b)
-      (λ z. or-right (isObserved t₁ k p) (or-right (isOverwriting t₁ P p k) (rw z)))
+      (λ z. or-right (isAwaited t₁ k p) (or-right (isObserved t₁ k p) (or-right (isOverwriting t₁ P p k) (rw z))))
       a)
-      (λ z. or-right (isObserved t₁ k p) (or-right (isOverwriting t₁ P p k) (or-right (isReadOver t₁ P p k) z)))
+      (λ z. or-right (isAwaited t₁ k p) (or-right (isObserved t₁ k p) (or-right (isOverwriting t₁ P p k) (or-right (isReadOver t₁ P p k) z))))
       f
 
   bound-three : (p k : ℕ) → isBound t₁ P Q p k ≡ true → Three p k
   unfolding isBound
   bound-three p k e =
       ⊎-elim
-      (λ a. inl (inl (inl a)))
+      (λ w. inl (inl (inl w)))
+      (λ w.
+      ⊎-elim
+      (λ a. inl (inl (inr (inl a))))
       (λ a.
       ⊎-elim
-      (λ b. inl (inl (inr b)))
+      (λ b. inl (inl (inr (inr b))))
       (λ b. ⊎-elim (λ z. inl (inr z)) (λ z. inr z) (either-true (isReadOver t₁ P p k) (isUnended t₁ P Q p k) b))
       (either-true (isOverwriting t₁ P p k) _ a))
-      (either-true (isObserved t₁ k p) _ e)
+      (either-true (isObserved t₁ k p) _ w))
+      (either-true (isAwaited t₁ k p) _ e)
 
   opened-is : (need : List ℕ) (k : ℕ) → k ∈ Q → k < length need → Last P (λ p. FirstTwo t₁ P p k) (at need k) → Last P (λ p. isBound t₁ P Q p k ≡ true) (at (withOpen t₁ tops k last need) k)
   unfolding withOpen isUnended
@@ -295,7 +305,7 @@ module _ (s : List ℕ) {m : ℕ} {P Q tops last : List ℕ} (l : Linked s) (g :
       let oq = both (isOutermost t₁ k) (not (listed (matching t₁ k) Q)) a .0 in
       let x = objectOf t₁ k in
       let new : Last P (λ p. isUnended t₁ P Q p k ≡ true) (at last x) =
-      last-map (λ p i z. true-both a (in-section k p oq i z)) (λ p i z. section-in k p oq i (both (isOutermost t₁ k && not (listed (matching t₁ k) Q)) _ z .1)) (sec .is x (l .good .object-limit k (g .others k n))) in
+      last-map (λ p i z. true-both a (in-section k p oq i z)) (λ p i z. section-in k p oq i (both (isOutermost t₁ k && not (listed (matching t₁ k) Q)) _ z .1)) (sec .is x (object-small t₁ (l .good) k (g .others k n))) in
       rw (o, raised-here need k (at last x) room) (last-map (λ p i z. three-bound p k z) (λ p i z. bound-three p k z) (last-two (at need k) (at last x) f new)))
       (λ o.
       let a : isOutermost t₁ k && not (listed (matching t₁ k) Q) ≡ false = sym (open-is k n) ∙ o in

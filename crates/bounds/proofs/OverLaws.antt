@@ -4,17 +4,17 @@ use native.Mathlib.Omega.{arith}
 use native.Mathlib.Numerals.{add-one}
 use mathlib.Core.Path.{_≡_, refl, sym, _∙_, ap}
 use mathlib.Core.Logic.{_≢_, _⊎_, inl, inr, ⊎-elim}
-use mathlib.Core.Bool.{Bool, true, false, cond, not}
+use mathlib.Core.Bool.{Bool, true, false, cond, _&&_, not}
 use mathlib.Core.List.{List, _∷_, List·Memᴰ·head, List·Memᴰ·tail, List·Memᴰ·not-nil}
 use lib.ListN.{length, getD, set, replicate, length-set}
 use lib.Seq.{getD-set-same, getD-set-other}
 use lib.Dec.{eqb, ltb}
-use borrow.Author.Tests.{eqb-true, eqb-false, eq-eqb, ne-eqb, ltb-true, ltb-false, lt-ltb, le-ltb, not-true}
-use Rattle.model.specs.Trace.{Trace, Valid, write, kindOf, objectOf, does}
+use borrow.Author.Tests.{eqb-true, eqb-false, eq-eqb, ne-eqb, ltb-true, lt-ltb, le-ltb}
+use Rattle.model.specs.Trace.{Trace, Valid, read, write, kindOf, objectOf, does}
 use Rattle.model.specs.Lists.{_∈_, nearest, passed}
-use Rattle.model.specs.Observed.{lastWrite}
-use Rattle.model.specs.Good.{maxObject}
-use Rattle.model.proofs.Tests.{by-cases, in-cons, clash, both, true-both}
+use Rattle.model.specs.Observed.{observed, lastWrite}
+use Rattle.model.specs.Good.{Good, maxObject}
+use Rattle.model.proofs.Tests.{by-cases, in-cons, clash, both, true-both, object-small}
 use Rattle.model.proofs.Lists.{getD-mem, reverse-mem, mem-reverse, nearest-mem, nearest-passes, any-mem, mem-any}
 use Rattle.model.proofs.Passed.{passed-suc, passed-all, passed-in, passed-below, below-passed, passed-last}
 use Rattle.decision.specs.Rounds.{isObserved}
@@ -22,34 +22,14 @@ use Rattle.decision.specs.Stairs.{isReadOver}
 use Rattle.decision.proofs.IntervalTests.{observed-true, true-observed}
 use Rattle.stairs.specs.Stairs.{at}
 use Rattle.table.specs.Table.{trace}
-use Rattle.table.specs.Links.{observedBy}
+use Rattle.table.specs.Links.{waitsFor}
 use Rattle.table.specs.Entries.{Entries, withWrite}
-use Rattle.table.proofs.LinkFacts.{reads-observed, observed-reads}
+use Rattle.table.proofs.LinkFacts.{reads-observed}
 use Rattle.table.proofs.EntryLaws.{entries-new, write-known}
 use Rattle.bounds.specs.Bounds.{isOwn, Last, Needs, Given, Needed}
 use Rattle.bounds.specs.Steps.{raisedTo, isOther, withOver, Over, First, FirstTwo}
-use Rattle.bounds.proofs.FirstLaws.{own-true, observed-few}
-
--- ---- the last of two kinds
-
-pub last-map : {P : List ℕ} {F G : ℕ → Type 0} {x : ℕ} → ((p : ℕ) → p ∈ P → F p → G p) → ((p : ℕ) → p ∈ P → G p → F p) → Last P F x → Last P G x
-last-map f g l = record { above = λ p n b. l .above p n (g p n b); from = ⊎-elim inl (λ z. inr (z .0, f _ (z .0) (z .1))) (l .from) }
-
-pub last-two : {P : List ℕ} {F G : ℕ → Type 0} (x y : ℕ) → Last P F x → Last P G y → Last P (λ p. F p ⊎ G p) (cond (ltb x y) y x)
-last-two x y a b =
-    by-cases (ltb x y)
-    (λ e.
-    let lt = ltb-true x y e in
-    rw e (record {
-      above = λ p n f. ⊎-elim (λ z. let u = a .above p n z in omega arith) (λ z. b .above p n z) f;
-      from = ⊎-elim inl (λ z. inr (z .0, inr (z .1))) (b .from);
-    }))
-    (λ e.
-    let le = ltb-false x y e in
-    rw e (record {
-      above = λ p n f. ⊎-elim (λ z. a .above p n z) (λ z. let u = b .above p n z in omega arith) f;
-      from = ⊎-elim inl (λ z. inr (z .0, inl (z .1))) (a .from);
-    }))
+use Rattle.bounds.proofs.FirstLaws.{own-true, waits-few}
+use Rattle.bounds.proofs.LastLaws.{last-map, last-two}
 
 -- ---- `raise`
 
@@ -98,17 +78,28 @@ module _ (t : Trace) (m w : ℕ) where
 
 -- ---- `read_over`
 
-module _ (t : Trace) (m e w : ℕ) (ew : w ≡ observedBy t e) (b : Bool) (eb : b ≡ isOther t m w) (last need : List ℕ) where
-  pub over-room : Valid t e → length t < length need → w < length need
-  over-room v h = let l = observed-few t e v w ew in omega arith
+pub over-room : {t : Trace} → Good t → (e w : ℕ) → w ≡ waitsFor t e → (need : List ℕ) → Valid t e → length t < length need → w < length need
+over-room g e w ew need v h = let l = waits-few g e v w ew in omega arith
 
-  pub over-other : b ≡ true → (x : ℕ) → x ≡ objectOf t e → {need′ : List ℕ} → need′ ≡ raisedTo need w (getD last x 0) → need′ ≡ withOver t m e last need
+module _ (t : Trace) (m e q : ℕ) (eq : q ≡ kindOf t e) (last need : List ℕ) where
+  pub over-no-read : (q ≡ read → ⊥) → need ≡ withOver t m e last need
   unfolding withOver
-  over-other i x ex q = q ∙ rw (← ew, ← eb, i, ex) refl
+  over-no-read ne = rw (ne-eqb (kindOf t e) read (λ z. ne (eq ∙ z)))
 
-  pub over-none : b ≡ false → need ≡ withOver t m e last need
-  unfolding withOver
-  over-none i = rw (← ew, ← eb, i) refl
+  module _ (i : q ≡ read) (w : ℕ) (ew : w ≡ waitsFor t e) (b : Bool) (eb : b ≡ isOther t m w) where
+    reads : kindOf t e ≡ read
+    reads = sym eq ∙ i
+
+    seen : observed t e ≡ w
+    seen = sym (reads-observed t e reads) ∙ sym ew
+
+    pub over-other : b ≡ true → (x : ℕ) → x ≡ objectOf t e → {need′ : List ℕ} → need′ ≡ raisedTo need w (getD last x 0) → need′ ≡ withOver t m e last need
+    unfolding withOver
+    over-other j x ex r = r ∙ rw (eq-eqb _ _ reads, seen, ← eb, j, ex) refl
+
+    pub over-none : b ≡ false → need ≡ withOver t m e last need
+    unfolding withOver
+    over-none j = rw (eq-eqb _ _ reads, seen, ← eb, j) refl
 
 -- ---- `add_over`
 
@@ -192,7 +183,7 @@ module _ {s : List ℕ} {m : ℕ} {P Q need₀ : List ℕ} {i : ℕ} {last need 
     last-new k o =
         let x = objectOf t e in
         let test : ℕ → Bool = λ q. does t write x q in
-        rw (p .knows .is x (p .given .links .good .object-limit e overs-valid)) (record {
+        rw (p .knows .is x (object-small t (p .given .links .good) e overs-valid)) (record {
           above = λ q j f. passed-last test P i q (p .given .parts .moved-up) (below-passed P i (p .given .parts .moved-up) h q j (rw ee at (f .2))) (f .1);
           from =
               by-cases (eqb (nearest test (passed P i)) 0) (λ z. inl (eqb-true _ _ z)) (λ z.
@@ -205,36 +196,34 @@ module _ {s : List ℕ} {m : ℕ} {P Q need₀ : List ℕ} {i : ℕ} {last need 
     is-more : (k : ℕ) → k ∈ Q → Last P (λ q. First t P q k ⊎ Over t (passed P (suc i)) q k) (at (withOver t m e last need) k)
     unfolding withOver isOther
     is-more k n =
-        let w = observedBy t e in
-        by-cases (isOther t m w)
+        let w = observed t e in
+        by-cases (eqb (kindOf t e) read && isOther t m w)
         (λ o.
-        let y = both (not (eqb w 0)) (not (isOwn t m w)) o in
-        let nz : w ≢ 0 = eqb-false w 0 (not-true _ (y .0)) in
-        let r = observed-reads t e nz in
+        let r : kindOf t e ≡ read = eqb-true _ _ (both (eqb (kindOf t e) read) (isOther t m w) o .0) in
         rw o (by-cases (eqb k w)
         (λ d.
         let ew : k ≡ w = eqb-true _ _ d in
-        let oe = true-observed t e k (r .0) (r .1 ∙ sym ew) in
+        let oe = true-observed t e k r (sym ew) in
         let b = p .given .parts .others k n .bounded in
         let room = p .given .room in
         rw (← ew, raised-here need k (at last (objectOf t e)) (omega arith)) (with-new k (last-two (at need k) (at last (objectOf t e)) (p .is .is k n) (last-new k oe))))
         (λ d.
         let ne : k ≢ w = eqb-false _ _ d in
-        rw (raised-other need w (at last (objectOf t e)) k ne) (no-new k n (λ z. let a = observed-true t e k z in ne (sym (a .1) ∙ r .1))))))
+        rw (raised-other need w (at last (objectOf t e)) k ne) (no-new k n (λ z. let a = observed-true t e k z in ne (sym (a .1)))))))
         (λ o.
         rw o (no-new k n (λ z.
         let a = observed-true t e k z in
-        let ew : w ≡ k = reads-observed t e (a .0) ∙ a .1 in
+        let ew : w ≡ k = a .1 in
         let v = p .given .parts .others k n .positive in
         let nk : k ≢ 0 = λ y. let u : ⊥ = omega arith in u in
-        clash (true-both (ap not (ne-eqb w 0 (λ y. nk (sym ew ∙ y)))) (ap not (not-own k n w ew))) o)))
+        clash (true-both (eq-eqb _ _ (a .0)) (true-both (ap not (ne-eqb w 0 (λ y. nk (sym ew ∙ y)))) (ap not (not-own k n w ew)))) o)))
       where
         not-own : (k : ℕ) → k ∈ Q → (w : ℕ) → w ≡ k → isOwn (trace s) m w ≡ false
         not-own k n w q = by-cases (isOwn (trace s) m w) (λ z. absurd (p .given .parts .others-thread k n (rw q at (own-true (trace s) m w z .1)))) (λ z. z)
 
     with-length : length (withOver t m e last need) ≡ length need
     unfolding withOver
-    with-length = by-cases (isOther t m (observedBy t e)) (λ o. rw o (raised-length need (observedBy t e) (at last (objectOf t e)))) (λ o. rw o)
+    with-length = by-cases (eqb (kindOf t e) read && isOther t m (observed t e)) (λ o. rw o (raised-length need (observed t e) (at last (objectOf t e)))) (λ o. rw o)
 
     pub overs-more : {need′ last′ : List ℕ} → need′ ≡ withOver (trace s) m e last need → last′ ≡ withWrite (trace s) e last → Overs s m P Q need₀ (i + 1) last′ need′
     overs-more q r =

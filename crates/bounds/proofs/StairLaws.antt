@@ -11,7 +11,7 @@ use borrow.Author.Tests.{eqb-true, eqb-false, eq-eqb, ne-eqb, leb-true, le-leb, 
 use Rattle.model.specs.Trace.{Trace, Valid, write, acquire, kindOf, objectOf}
 use Rattle.model.specs.Lists.{_∈_, nearest}
 use Rattle.model.specs.Good.{Good, maxObject}
-use Rattle.model.proofs.Tests.{by-cases, both, true-both, either-true, or-right}
+use Rattle.model.proofs.Tests.{by-cases, both, true-both, either-true, or-right, object-small}
 use Rattle.model.proofs.Lists.{reverse-mem, mem-reverse, nearest-mem, nearest-passes, any-mem, mem-any}
 use Rattle.model.proofs.Passed.{passed-all, passed-last}
 use Rattle.model.proofs.SectionsExact.{outermost-acquires}
@@ -41,8 +41,8 @@ module _ (t : Trace) (g : Good t) where
   slot-alike : (v w : ℕ) → Valid t v → Valid t w → isOpening t v ≡ true → isOpening t w ≡ true → slotOf t v ≡ slotOf t w → isAlike t v w ≡ true
   unfolding slotOf
   slot-alike v w x y a b e =
-      let lv = g .object-limit v x in
-      let lw = g .object-limit w y in
+      let lv = object-small t g v x in
+      let lw = object-small t g w y in
       true-alike t v w (⊎-elim
       (λ i.
       ⊎-elim

@@ -11,13 +11,14 @@ use Rattle.model.specs.Lists.{_∈_, nearest, passed}
 use Rattle.model.specs.Observed.{observed}
 use Rattle.model.specs.Good.{maxObject}
 use Rattle.model.specs.Race.{Increasing}
+use Rattle.decision.specs.Check.{isAwaited}
 use Rattle.decision.specs.Rounds.{isObserved}
 use Rattle.model.specs.Sections.{isOutermost}
 use Rattle.model.specs.Cone.{matching}
 use Rattle.decision.specs.Stairs.{isOverwriting, isReadOver}
 use Rattle.stairs.specs.Stairs.{at}
 use Rattle.table.specs.Table.{trace, Linked}
-use Rattle.table.specs.Links.{observedBy, began}
+use Rattle.table.specs.Links.{waitsFor, began, forkOf}
 use Rattle.table.specs.Entries.{Entries}
 use Rattle.bounds.specs.Bounds.{isOwn, Last}
 
@@ -55,12 +56,22 @@ pub record Read (s : List ℕ) (m : ℕ) (P : List ℕ) (k i : ℕ) (seen : List
   pub reading : Reading s m P k i seen
   pub all : (e : ℕ) → e ∈ P → e < k → e ∈ passed P i
 
--- what event k of Q needs by what it observed or overwrote
+-- ---- what event k of Q needs by what it waits for, observed or overwrote
+
+-- w, where it is an event of thread m; 0 otherwise
+unfoldable pub ownEvent : Trace → ℕ → ℕ → ℕ
+ownEvent t m w = cond (isOwn t m w) w 0
+
+-- by what it does
+unfoldable pub actionBound : Trace → ℕ → ℕ → List ℕ → ℕ
+actionBound t m k seen = cond (eqb (kindOf t k) write) (at seen (objectOf t k)) (ownEvent t m (waitsFor t k))
+
+-- and by the fork of its thread
 unfoldable pub firstBound : Trace → ℕ → ℕ → List ℕ → ℕ
-firstBound t m k seen = cond (eqb (kindOf t k) write) (at seen (objectOf t k)) (cond (isOwn t m (observedBy t k)) (observedBy t k) 0)
+firstBound t m k seen = let a = actionBound t m k seen in let f = ownEvent t m (forkOf t k) in cond (ltb a f) f a
 
 abbrev pub First : Trace → List ℕ → ℕ → ℕ → Type 0
-First t P p k = (isObserved t k p ≡ true) ⊎ (isOverwriting t P p k ≡ true)
+First t P p k = (isAwaited t k p ≡ true) ⊎ ((isObserved t k p ≡ true) ⊎ (isOverwriting t P p k ≡ true))
 
 -- ---- writes of P, and reads of P behind them
 
@@ -70,7 +81,7 @@ isOther t m w = not (eqb w 0) && not (isOwn t m w)
 
 -- what event e, where it observed a write of Q, makes that write need: the last write of P before e
 unfoldable pub withOver : Trace → ℕ → ℕ → List ℕ → List ℕ → List ℕ
-withOver t m e last need = cond (isOther t m (observedBy t e)) (raisedTo need (observedBy t e) (at last (objectOf t e))) need
+withOver t m e last need = cond (eqb (kindOf t e) read && isOther t m (observed t e)) (raisedTo need (observed t e) (at last (objectOf t e))) need
 
 -- p is a write, and a later read of a history observed k
 abbrev pub Over : Trace → List ℕ → ℕ → ℕ → Type 0

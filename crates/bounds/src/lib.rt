@@ -10,7 +10,7 @@ ghost use Rattle.table.specs.Table.{trace, Linked};
 ghost use Rattle.table.specs.Entries.{withWrite};
 ghost use Rattle.model.specs.Good.{maxObject};
 ghost use Rattle.bounds.specs.Bounds.{isOwn, Given, Ended, Needed, Bound, Covers};
-ghost use Rattle.bounds.specs.Steps.{withEnd, raisedTo, isOutside, withRead, Reading, Read, firstBound, First, isOther, withOver, FirstTwo, withSection, Sections, isOpenIn, withOpen};
+ghost use Rattle.bounds.specs.Steps.{withEnd, raisedTo, isOutside, withRead, Reading, Read, ownEvent, actionBound, firstBound, First, isOther, withOver, FirstTwo, withSection, Sections, isOpenIn, withOpen};
 
 // Is w, which may be 0, an event of thread m?
 fn is_own(table: &[u16], m: u8, w: usize) -> bool
@@ -55,7 +55,7 @@ fn outside(table: &[u16], m: u8, e: usize) -> bool
     if table::kind_at(table, e) != Event::READ {
         return false;
     }
-    !is_own(table, m, table::observed_at(table, e))
+    !is_own(table, m, table::waits_at(table, e))
 }
 
 // Event e of p, where it is such a read, is the last of its cell so far.
@@ -93,23 +93,44 @@ fn note_reads(
     i
 }
 
-// What event k of q needs: the write of p that it observed, or the last read of p before it that it overwrote.
-fn first_bound(table: &[u16], m: u8, k: usize, seen: &[u16; Event::OBJECTS]) -> u16
-    requires { ⌜ Linked (now table) × Valid (trace (now table)) k ⌝ }
-    ensures { λ r. ⌜ r ≡ firstBound (trace (now (table .entry))) m k (now (seen .entry)) ⌝ }
+// w, where it is an event of thread m; 0 otherwise.
+fn own_event(table: &[u16], m: u8, w: usize) -> u16
+    requires { ⌜ (w ≤ length (trace (now table))) × (w < 65536) ⌝ }
+    ensures { λ r. ⌜ r ≡ ownEvent (trace (now (table .entry))) m w ⌝ }
 {
-    if table::kind_at(table, k) == Event::WRITE {
-        let x = table::object_place(table, k);
-        return seen[x];
-    }
-    let w = table::observed_at(table, k);
     if is_own(table, m, w) {
         return w as u16;
     }
     0
 }
 
-// What each event of q needs by what it observed or overwrote. The two lists are walked in the trace's order.
+// What event k of q needs by what it does: the write of p that it observed, the last event of p where it joins the moved thread, or the last read of p
+// before it that it overwrote.
+fn action_bound(table: &[u16], m: u8, k: usize, seen: &[u16; Event::OBJECTS]) -> u16
+    requires { ⌜ Linked (now table) × Valid (trace (now table)) k ⌝ }
+    ensures { λ r. ⌜ r ≡ actionBound (trace (now (table .entry))) m k (now (seen .entry)) ⌝ }
+{
+    if table::kind_at(table, k) == Event::WRITE {
+        let x = table::object_place(table, k);
+        return seen[x];
+    }
+    own_event(table, m, table::waits_at(table, k))
+}
+
+// And where its thread was forked by p, the fork.
+fn first_bound(table: &[u16], m: u8, k: usize, seen: &[u16; Event::OBJECTS]) -> u16
+    requires { ⌜ Linked (now table) × Valid (trace (now table)) k ⌝ }
+    ensures { λ r. ⌜ r ≡ firstBound (trace (now (table .entry))) m k (now (seen .entry)) ⌝ }
+{
+    let bound = action_bound(table, m, k, seen);
+    let fork = own_event(table, m, table::forked_at(table, k));
+    if bound < fork {
+        return fork;
+    }
+    bound
+}
+
+// What each event of q needs by what it waits for, observed or overwrote. The two lists are walked in the trace's order.
 fn add_first(table: &[u16], m: u8, p: &[u16], q: &[u16], need: &mut [u16])
     requires { ⌜ Given (now table) m (now p) (now q) (now need) ⌝ }
     ensures { λ _. ⌜ Needed (now (table .entry)) m (now (p .entry)) (now (q .entry)) (First (trace (now (table .entry))) (now (p .entry))) (now (need .exit)) ⌝ }
@@ -162,7 +183,10 @@ fn read_over(table: &[u16], m: u8, e: usize, last: &[u16; Event::OBJECTS], need:
     requires { ⌜ Linked (now table) × (Valid (trace (now table)) e × (length (trace (now table)) < length (now need))) ⌝ }
     ensures { λ _. ⌜ now (need .exit) ≡ withOver (trace (now (table .entry))) m e (now (last .entry)) (now (need .entry)) ⌝ }
 {
-    let w = table::observed_at(table, e);
+    if table::kind_at(table, e) != Event::READ {
+        return;
+    }
+    let w = table::waits_at(table, e);
     if is_other(table, m, w) {
         let x = table::object_place(table, e);
         raise(need, w, last[x]);

@@ -21,13 +21,10 @@ use Rattle.decision.proofs.ListingExact.{conflicting-exactly}
 use Rattle.limits.specs.Limits.{noLocks}
 use Rattle.limits.specs.declared.Refusal.the-variants.{NotConflicting}
 use Rattle.table.proofs.EntryLaws.{entries-new}
-use Rattle.checking.specs.Passing.{Knows, NextTold, FaultTold, KnowsMore, Walked}
+use Rattle.checking.specs.Passing.{Knows, EnabledTold, FaultTold, KnowsMore, Walked}
 use Rattle.checking.specs.Checking.{checked, checkIn}
+use Rattle.checking.proofs.PassLaws.{first-nonzero}
 use Rattle.checking.specs.declared.Check.the-variants.{Refused, Yes, No}
-
-first-nonzero : (f g : ℕ) → f ≢ 0 → f ≡ firstOf f g
-first-nonzero zero g ne = absurd (ne refl)
-first-nonzero (suc f) g ne = refl
 
 -- the first i places have no fault, and the lists are theirs
 pub record Passing (t : Trace) (list : List ℕ) (i : ℕ) (last writes locks : List ℕ) : Type 0 where
@@ -88,16 +85,16 @@ module _ {t : Trace} {list : List ℕ} {f : ℕ} {last writes locks : List ℕ} 
     clean : faultFrom t [] list ≡ 0
     clean = sym (w .says) ∙ e
 
-    enabled : {k : ℕ} {u : Bool} → NextTold t last k u → isEnabled t list k ≡ u
+    enabled : {k : ℕ} {u : Bool} → EnabledTold t last k u → isEnabled t list k ≡ u
     unfolding isEnabled
     enabled n = sym (n .is (reverse list) writes locks (w .knows e))
 
-    module _ (a b : ℕ) {u : Bool} (na : NextTold t last a u) where
+    module _ (a b : ℕ) {u : Bool} (na : EnabledTold t last a u) where
       pub walked-lower : not u ≡ true → 25 ≡ check t a b list
       unfolding check
       walked-lower i = rw (clean, enabled na, i) refl
 
-      module _ (i : not u ≡ false) {v : Bool} (nb : NextTold t last b v) where
+      module _ (i : not u ≡ false) {v : Bool} (nb : EnabledTold t last b v) where
         pub walked-higher : not v ≡ true → 26 ≡ check t a b list
         unfolding check
         walked-higher j = rw (clean, enabled na, i, enabled nb, j) refl

@@ -1,29 +1,32 @@
--- The next event of a thread, what an event does to the lists, and its fault: the ways through `is_next`, `pass`, `access_fault` and `fault_at`.
+-- The next event of a thread, what an event waits for, what it does to the lists, and its fault: the ways through `is_next`, `is_ready`, `pass`, `access_fault` and `fault_at`.
 use Prim.Native.Nat.{ℕ, suc, _+_, _≤_, zero, _<_}
 use native.Mathlib.Omega.{arith}
 use mathlib.Core.Path.{_≡_, sym, _∙_, ap, refl}
 use mathlib.Core.Logic.{_≢_, inl, inr, ⊎-elim}
-use mathlib.Core.Bool.{true, false, cond, Bool, _&&_, not}
+use mathlib.Core.Bool.{true, false, cond, Bool, _&&_, _||_, not}
 use mathlib.Core.List.{List, _∷_, [], reverse, reverse-reverse}
 use lib.ListN.{set, getD, length}
-use lib.Dec.{eqb}
-use borrow.Author.Tests.{eqb-true, eqb-false, eq-eqb, ne-eqb, not-true, not-false}
-use Rattle.model.specs.Trace.{Trace, Valid, write, acquire, release, threadOf, kindOf, objectOf, does, read}
+use lib.Dec.{eqb, leb}
+use borrow.Author.Tests.{eqb-true, eqb-false, eq-eqb, ne-eqb, leb-true, le-leb, not-true, not-false}
+use Rattle.model.specs.Trace.{Trace, Valid, write, acquire, release, fork, join, threadOf, kindOf, objectOf, does, read}
 use Rattle.model.specs.Observed.{lastWrite}
 use Rattle.model.specs.Good.{Good, maxThread, maxObject, holder, Free}
+use Rattle.model.specs.Awaits.{Awaits, forked, joined}
 use Rattle.model.specs.Reordering.{Step, Next}
 use Rattle.model.specs.Sections.{isLast}
-use Rattle.model.proofs.Tests.{by-cases, true-just, false-just, true-does, false-does, false-test, test-false, not-on}
-use Rattle.model.proofs.Histories.{Legal, of-legal, to-legal, beginning}
-use Rattle.decision.proofs.CheckExact.{clean-step, next-true, true-next, valid-true, true-valid, seen-true, true-seen, free-true, true-free}
+use Rattle.model.proofs.Tests.{by-cases, clash, or-right, either-true, true-just, false-just, true-does, false-does, false-test, test-false, not-on}
+use Rattle.model.proofs.Lists.{nearest-mem, mem-own, own-mem, mem-upTo, upTo-mem, mem-listed, listed-mem}
+use Rattle.model.proofs.AwaitsExact.{awaits-valid, only-fork}
+use Rattle.model.proofs.Histories.{Legal, of-legal, to-legal, legal-valid, beginning}
+use Rattle.decision.proofs.CheckExact.{clean-step, next-true, true-next, valid-true, true-valid, seen-true, true-seen, free-true, true-free, ready-true, true-ready}
 use Rattle.model.proofs.SectionsExact.{last-releases, release-by-holder, release-frees}
-use Rattle.table.specs.Links.{lastOf, releaseOf, previous, observedBy}
+use Rattle.table.specs.Links.{lastOf, releaseOf, previous, waitsFor, forkOf}
 use Rattle.table.specs.Entries.{Entries}
-use Rattle.table.proofs.LinkFacts.{last-release, reads-observed}
+use Rattle.table.proofs.LinkFacts.{nearest-last, last-release, reads-observed, last-joined, joined-last, joined-thread, waits-less, fork-less, fork-awaited, fork-only}
 use Rattle.table.proofs.EntryLaws.{entries-same, entries-put}
-use Rattle.checking.specs.Passing.{KnowsMore, Knows, NextTold, AccessTold, FaultTold}
-use Rattle.model.specs.Lists.{upTo, before, keep, nearest, just}
-use Rattle.decision.specs.Check.{isNext, isSeen, isFree, placeTests, placeFault}
+use Rattle.checking.specs.Passing.{KnowsMore, Knows, NextTold, PassedTold, ReadyTold, EnabledTold, accessFault, AccessTold, FaultTold}
+use Rattle.model.specs.Lists.{_∈_, upTo, before, keep, nearest, listed, own, just}
+use Rattle.decision.specs.Check.{isNext, isSeen, isFree, isReady, placeTests, placeFault, firstOf}
 use Rattle.model.specs.Rows.{first, orZero}
 
 -- ---- the trace's events that pass a test are told by the latest of them
@@ -71,6 +74,113 @@ next-told {t} {k} v last c ec lc j ej l el =
           (λ e. rw e (eq-eqb _ _ (ej ∙ next-last t h k (next-true t h k e) ∙ sym same)))
           (λ e. rw e (ne-eqb _ _ (λ z. test-false (true-next t h k) e (last-next t h (knows-legal q) k v (sym ej ∙ z ∙ same)))));
     }
+
+-- ---- what an event waits for
+
+module _ (t : Trace) (h : List ℕ) (l : Legal t h) (j : ℕ) (v : Valid t j) where
+  abbrev same : ℕ → Bool
+  same i = just (threadOf t j) (threadOf t i)
+
+  -- a history has the beginning of each thread, up to its last event there
+  pub upto-last : j ≤ lastOf t h (threadOf t j) → j ∈ h
+  upto-last le =
+      let c = threadOf t j in
+      let b = beginning t h l c in
+      let e : nearest same h ≡ nearest same (upTo (b .0)) = same-nearest same h (upTo (b .0)) (b .2) in
+      let ne : nearest same (upTo (b .0)) ≢ 0 = λ z. let p = v .positive in let n : ⊥ = omega arith in n in
+      let top = mem-upTo (b .0) (nearest same (upTo (b .0))) (nearest-mem same (upTo (b .0)) ne) .1 in
+      mem-own t c j h (rw (b .2) (own-mem t c (upTo-mem (b .0) j (v .positive) (omega arith)) refl)) .0
+
+  pub last-upto : j ∈ h → j ≤ lastOf t h (threadOf t j)
+  last-upto m =
+      let c = threadOf t j in
+      let b = beginning t h l c in
+      let x : j ∈ own t c (upTo (b .0)) = rw (← (b .2)) (own-mem t c m refl) in
+      let y = mem-upTo (b .0) j (mem-own t c j (upTo (b .0)) x .0) in
+      let z = nearest-last same (b .0) j (y .0) (y .1) (true-just c c refl) in
+      let e : nearest same h ≡ nearest same (upTo (b .0)) = same-nearest same h (upTo (b .0)) (b .2) in
+      omega arith
+
+pub fork-bounded : {t : Trace} {k : ℕ} → Valid t k → (o : ℕ) → o ≡ forkOf t k → o ≤ length t
+fork-bounded {t} {k} v o e = let z = fork-less t k (v .positive) in let b = v .bounded in omega arith
+
+pub waits-bounded : {t : Trace} {k : ℕ} → Good t → Valid t k → (o : ℕ) → o ≡ waitsFor t k → o ≤ length t
+waits-bounded {t} {k} g v o e = let z = waits-less t (g .well-formed) k v in let b = v .bounded in omega arith
+
+pub passed-none : (t : Trace) (last : List ℕ) (j : ℕ) → j < 1 → PassedTold t last j true
+passed-none t last j f = let z : j ≡ 0 = omega arith in record { is = λ h writes locks q. rw z }
+
+pub passed-valid : (t : Trace) (j : ℕ) → 1 ≤ j → j ≤ length t → Valid t j
+passed-valid t j p q = record { positive = p; bounded = q }
+
+pub passed-upto : {t : Trace} {j : ℕ} → 1 ≤ j → j ≤ length t → (last : List ℕ) (c : ℕ) → c ≡ threadOf t j → c ≤ maxThread → (l : ℕ) → l ≡ getD last c 0 → PassedTold t last j (leb j l)
+passed-upto {t} {j} p b last c ec lc l el =
+    record {
+      is = λ h writes locks q.
+          let v : Valid t j = record { positive = p; bounded = b } in
+          let same : l ≡ lastOf t h (threadOf t j) = el ∙ q .threads .is c lc ∙ ap (lastOf t h) ec in
+          by-cases (listed j h)
+          (λ e. rw (ne-eqb j 0 (omega arith), e) (le-leb j l (let z = last-upto t h (knows-legal q) j v (listed-mem j h e) in omega arith)))
+          (λ e.
+          rw (ne-eqb j 0 (omega arith), e)
+          (false-test (leb-true j l) (λ le. test-false mem-listed e (upto-last t h (knows-legal q) j v (let y = same in omega arith)))));
+    }
+
+module _ {t : Trace} (g : Good t) {k : ℕ} (v : Valid t k) {last : List ℕ} {o : ℕ} (eo : o ≡ forkOf t k) {b : Bool} (a : PassedTold t last o b) where
+  -- its thread's fork has not been passed
+  pub fork-ahead : not b ≡ true → ReadyTold t last k false
+  fork-ahead e = record {
+    is = λ h writes locks q.
+        let f : eqb o 0 || listed o h ≡ false = sym (a .is h writes locks q) ∙ not-true b e in
+        let ne : forkOf t k ≢ 0 = λ z. clash (rw (eo ∙ z)) f in
+        sym (false-test (ready-true t h k) (λ r. clash (or-right (eqb o 0) (mem-listed (rw (← eo) at (r (forkOf t k) (fork-awaited t k ne))))) f));
+  }
+
+  module _ (e : not b ≡ false) where
+    fork-in : (h writes locks : List ℕ) → Knows t h last writes locks → (j : ℕ) → kindOf t j ≡ fork → objectOf t j ≡ threadOf t k → j ∈ h
+    fork-in h writes locks q j f c =
+        let z = fork-only t (g .well-formed) k v j f c in
+        let p = awaits-valid t k j (forked f c) .positive in
+        let y : eqb o 0 || listed o h ≡ true = sym (a .is h writes locks q) ∙ not-false b e in
+        rw (eo ∙ z) at (listed-mem o h (⊎-elim (λ n. let u = eqb-true o 0 n in absurd (omega arith)) (λ n. n) (either-true (eqb o 0) (listed o h) y)))
+
+    module _ {d : ℕ} (ed : d ≡ kindOf t k) where
+      pub ready-fork : (d ≡ join → ⊥) → ReadyTold t last k true
+      ready-fork ne = record {
+        is = λ h writes locks q. sym (true-ready t h k (only-fork t h k (λ z. ne (ed ∙ z)) .1 (fork-in h writes locks q)));
+      }
+
+      pub ready-join : d ≡ join → {u : ℕ} → u ≡ waitsFor t k → {r : Bool} → PassedTold t last u r → ReadyTold t last k r
+      ready-join ej {u} eu {r} x = record {
+        is = λ h writes locks q.
+            let f : kindOf t k ≡ join = sym ed ∙ ej in
+            let s = x .is h writes locks q in
+            by-cases r
+            (λ y. rw y (sym (true-ready t h k (all h writes locks q f (sym s ∙ y)))))
+            (λ y.
+            let n : eqb u 0 || listed u h ≡ false = sym s ∙ y in
+            let nz : waitsFor t k ≢ 0 = λ z. clash (rw (eu ∙ z)) n in
+            rw y (sym (false-test (ready-true t h k) (λ g. clash (or-right (eqb u 0) (mem-listed (rw (← eu) at (g (waitsFor t k) (last-joined t k f nz))))) n))));
+      }
+        where
+          all : (h writes locks : List ℕ) → Knows t h last writes locks → kindOf t k ≡ join → eqb u 0 || listed u h ≡ true → (j : ℕ) → Awaits t k j → j ∈ h
+          all h writes locks q f y j (forked g c) = fork-in h writes locks q j g c
+          all h writes locks q f y j (joined g vj c) =
+              let low = joined-last t k j f vj c in
+              let p = vj .positive in
+              let nz : waitsFor t k ≢ 0 = λ z. let n : ⊥ = omega arith in n in
+              let i : u ∈ h = listed-mem u h (⊎-elim (λ n. let m = eqb-true u 0 n in absurd (nz (sym eu ∙ m))) (λ n. n) (either-true (eqb u 0) (listed u h) y)) in
+              let vu = legal-valid t h (knows-legal q) u i in
+              let top = last-upto t h (knows-legal q) u vu i in
+              let th : threadOf t u ≡ threadOf t j = rw (← eu) at (joined-thread t k f nz) ∙ sym c in
+              upto-last t h (knows-legal q) j vj (let z : u ≤ lastOf t h (threadOf t j) = rw th at top in omega arith)
+
+module _ {t : Trace} {last : List ℕ} {k : ℕ} {b : Bool} (a : NextTold t last k b) where
+  pub enabled-not : not b ≡ true → EnabledTold t last k false
+  enabled-not e = record { is = λ h writes locks q. rw (sym (a .is h writes locks q) ∙ not-true b e) }
+
+  pub enabled-ready : not b ≡ false → {r : Bool} → ReadyTold t last k r → EnabledTold t last k r
+  enabled-ready e x = record { is = λ h writes locks q. rw (sym (a .is h writes locks q) ∙ not-false b e) (x .is h writes locks q) }
 
 -- ---- what an event does to the lists
 
@@ -167,13 +277,13 @@ module _ (t : Trace) (k : ℕ) (last writes locks : List ℕ) (c : ℕ) (ec : c 
 
 -- ---- the fault of an event
 
-module _ {t : Trace} {k : ℕ} (v : Valid t k) (writes locks : List ℕ) (x : ℕ) (ex : x ≡ objectOf t k) (lx : x ≤ maxObject) (d : ℕ) (ed : d ≡ kindOf t k) where
-  -- only what it sees and whether its lock is free remain to be asked
+module _ (t : Trace) (k : ℕ) (writes locks : List ℕ) (x : ℕ) (ex : x ≡ objectOf t k) (lx : x ≤ maxObject) (d : ℕ) (ed : d ≡ kindOf t k) where
+  -- what it sees, and whether its lock is free
   remain : (r : ℕ) → ((h last : List ℕ) → Knows t h last writes locks → r ≡ orZero (first ((eqb (kindOf t k) read && not (isSeen t h k)) ∷ (eqb (kindOf t k) acquire && not (isFree t h k)) ∷ []) (23 ∷ 24 ∷ []))) → AccessTold t writes locks k r
-  unfolding placeFault placeTests
-  remain r f = record { is = λ h last q e. rw (true-valid t k v, e) (f h last q) }
+  unfolding accessFault
+  remain r f = record { is = λ h last q. f h last q }
 
-  module _ (e : d ≡ read) (w : ℕ) (ew : w ≡ getD writes x 0) (o : ℕ) (eo : o ≡ observedBy t k) where
+  module _ (e : d ≡ read) (w : ℕ) (ew : w ≡ getD writes x 0) (o : ℕ) (eo : o ≡ waitsFor t k) where
     reads : kindOf t k ≡ read
     reads = sym ed ∙ e
 
@@ -214,6 +324,10 @@ module _ {t : Trace} {k : ℕ} (v : Valid t k) (writes locks : List ℕ) (x : �
 
 -- ---- any number
 
+pub first-nonzero : (f g : ℕ) → f ≢ 0 → f ≡ firstOf f g
+first-nonzero zero g ne = absurd (ne refl)
+first-nonzero (suc f) g ne = refl
+
 pub number-valid : (t : Trace) (k : ℕ) → 1 ≤ k → (n : ℕ) → n ≡ length t → k ≤ n → Valid t k
 number-valid t k p n e f = record { positive = p; bounded = omega arith }
 
@@ -233,5 +347,21 @@ module _ {t : Trace} {last : List ℕ} {k : ℕ} {b : Bool} (a : NextTold t last
   unfolding placeFault placeTests
   not-next v e = record { is = λ h q. rw (true-valid t k v, sym (a .is h writes locks q) ∙ not-true b e) }
 
-  pub access : not b ≡ false → {r : ℕ} → AccessTold t writes locks k r → FaultTold t last writes locks k r
-  access e x = record { is = λ h q. x .is h last q (sym (a .is h writes locks q) ∙ not-false b e) }
+  module _ (v : Valid t k) (e : not b ≡ false) {r : ℕ} (x : AccessTold t writes locks k r) where
+    -- the fault of an event that is the next of its thread: 23 or 24, and then 27
+    of-next : (h : List ℕ) → Knows t h last writes locks → placeFault t h k ≡ firstOf (accessFault t h k) (orZero (first (not (isReady t h k) ∷ []) (27 ∷ [])))
+    unfolding placeFault placeTests accessFault
+    of-next h q =
+        rw (true-valid t k v, sym (a .is h writes locks q) ∙ not-false b e)
+        (by-cases (eqb (kindOf t k) read && not (isSeen t h k)) (λ y. rw y refl) (λ y.
+        by-cases (eqb (kindOf t k) acquire && not (isFree t h k)) (λ z. rw (y, z) refl) (λ z. rw (y, z) refl)))
+
+    pub access-found : (r ≡ 0 → ⊥) → FaultTold t last writes locks k r
+    access-found ne = record { is = λ h q. let s = x .is h last q in first-nonzero r _ ne ∙ ap (λ (n : ℕ). firstOf n (orZero (first (not (isReady t h k) ∷ []) (27 ∷ [])))) s ∙ sym (of-next h q) }
+
+    module _ (z : r ≡ 0) {c : Bool} (y : ReadyTold t last k c) where
+      pub not-ready : not c ≡ true → FaultTold t last writes locks k 27
+      not-ready n = record { is = λ h q. sym (of-next h q ∙ rw (sym (x .is h last q) ∙ z, sym (y .is h writes locks q) ∙ not-true c n)) }
+
+      pub no-fault : not c ≡ false → FaultTold t last writes locks k 0
+      no-fault n = record { is = λ h q. sym (of-next h q ∙ rw (sym (x .is h last q) ∙ z, sym (y .is h writes locks q) ∙ not-false c n)) }

@@ -1,13 +1,16 @@
 -- What the pass over a proposed list keeps of the events that have been passed, and what its parts say by it.
 use Prim.Native.Nat.{ℕ}
 use mathlib.Core.Path.{_≡_}
-use mathlib.Core.Bool.{Bool, true}
+use mathlib.Core.Bool.{Bool, _&&_, _||_, not}
 use mathlib.Core.List.{List, [], _∷_, reverse}
-use Rattle.model.specs.Trace.{Trace}
+use lib.Dec.{eqb}
+use Rattle.model.specs.Trace.{Trace, read, acquire, kindOf}
+use Rattle.model.specs.Lists.{listed}
 use Rattle.model.specs.Observed.{lastWrite}
 use Rattle.model.specs.Good.{maxThread, maxObject, holder}
 use Rattle.model.specs.Reordering.{Correct}
-use Rattle.decision.specs.Check.{isNext, placeFault, faultFrom}
+use Rattle.model.specs.Rows.{first, orZero}
+use Rattle.decision.specs.Check.{isNext, isSeen, isFree, isReady, placeFault, faultFrom}
 use Rattle.table.specs.Links.{lastOf}
 use Rattle.table.specs.Entries.{Entries}
 
@@ -24,11 +27,26 @@ pub record Knows (t : Trace) (h last writes locks : List ℕ) : Type 0 where
 pub record NextTold (t : Trace) (last : List ℕ) (k : ℕ) (r : Bool) : Type 0 where
   pub is : (h writes locks : List ℕ) → Knows t h last writes locks → r ≡ isNext t h k
 
--- the fault of an event that is
-pub record AccessTold (t : Trace) (writes locks : List ℕ) (k r : ℕ) : Type 0 where
-  pub is : (h last : List ℕ) → Knows t h last writes locks → isNext t h k ≡ true → r ≡ placeFault t h k
+-- has event j, if it is one, been passed?
+pub record PassedTold (t : Trace) (last : List ℕ) (j : ℕ) (r : Bool) : Type 0 where
+  pub is : (h writes locks : List ℕ) → Knows t h last writes locks → r ≡ (eqb j 0 || listed j h)
 
--- the fault of any number
+-- has all been passed that event k waits for?
+pub record ReadyTold (t : Trace) (last : List ℕ) (k : ℕ) (r : Bool) : Type 0 where
+  pub is : (h writes locks : List ℕ) → Knows t h last writes locks → r ≡ isReady t h k
+
+-- is it enabled?
+pub record EnabledTold (t : Trace) (last : List ℕ) (k : ℕ) (r : Bool) : Type 0 where
+  pub is : (h writes locks : List ℕ) → Knows t h last writes locks → r ≡ isNext t h k && isReady t h k
+
+-- fault 23 or 24 of an event
+unfoldable pub accessFault : Trace → List ℕ → ℕ → ℕ
+accessFault t h k = orZero (first ((eqb (kindOf t k) read && not (isSeen t h k)) ∷ (eqb (kindOf t k) acquire && not (isFree t h k)) ∷ []) (23 ∷ 24 ∷ []))
+
+pub record AccessTold (t : Trace) (writes locks : List ℕ) (k r : ℕ) : Type 0 where
+  pub is : (h last : List ℕ) → Knows t h last writes locks → r ≡ accessFault t h k
+
+-- the fault of any number: 21 to 24, or 27
 pub record FaultTold (t : Trace) (last writes locks : List ℕ) (k r : ℕ) : Type 0 where
   pub is : (h : List ℕ) → Knows t h last writes locks → r ≡ placeFault t h k
 

@@ -8,11 +8,13 @@ use limits::Thread;
 ghost use mathlib.Core.Path.{_≡_};
 ghost use mathlib.Core.Option.{none};
 ghost use mathlib.Core.List.{[]};
+ghost use Prim.Native.Nat.{_≤_};
+ghost use lib.ListN.{length};
 ghost use Rattle.model.specs.Trace.{Valid};
 ghost use Rattle.decision.specs.Check.{isCorrect, check};
 ghost use Rattle.table.specs.Table.{trace, Linked};
 ghost use Rattle.checking.specs.Checking.{checkIn};
-ghost use Rattle.checking.specs.Passing.{Knows, NextTold, AccessTold, FaultTold, KnowsMore, Walked};
+ghost use Rattle.checking.specs.Passing.{Knows, NextTold, PassedTold, ReadyTold, EnabledTold, AccessTold, FaultTold, KnowsMore, Walked};
 
 // The paper's numbers of the faults. A number of the list is 0 or above n;
 const NO_EVENT: u8 = 21;
@@ -20,8 +22,10 @@ const NO_EVENT: u8 = 21;
 const NOT_NEXT: u8 = 22;
 // it is a read that sees otherwise;
 const SEES_OTHERWISE: u8 = 23;
-// it is an acquire of a lock that another thread holds.
+// it is an acquire of a lock that another thread holds;
 const LOCK_HELD: u8 = 24;
+// its thread's fork is not in the list before it or, where it is a join, an event of the joined thread is not.
+const NOT_READY: u8 = 27;
 // After the list a is not enabled;
 const LOWER_NOT_ENABLED: u8 = 25;
 // b is not.
@@ -43,7 +47,44 @@ fn is_next(table: &[u16], last: &[u16; Thread::COUNT], k: usize) -> bool
     table::previous_at(table, k) == table::wide(last[c])
 }
 
-// The fault of an event that is the next of its thread: a read must see what it saw in the trace, an acquire must take a
+// Has event j, if it is one, been passed?
+fn has_passed(table: &[u16], last: &[u16; Thread::COUNT], j: usize) -> bool
+    requires { ⌜ Linked (now table) × (j ≤ length (trace (now table))) ⌝ }
+    ensures { λ r. ⌜ PassedTold (trace (now (table .entry))) (now (last .entry)) j r ⌝ }
+{
+    if j < 1 {
+        return true;
+    }
+    let c = table::thread_place(table, j);
+    j <= table::wide(last[c])
+}
+
+// Has all been passed that event k waits for: the fork of its thread and, where it is a join, the joined thread up to its last event?
+fn is_ready(table: &[u16], last: &[u16; Thread::COUNT], k: usize) -> bool
+    requires { ⌜ Linked (now table) × Valid (trace (now table)) k ⌝ }
+    ensures { λ r. ⌜ ReadyTold (trace (now (table .entry))) (now (last .entry)) k r ⌝ }
+{
+    if !has_passed(table, last, table::forked_at(table, k)) {
+        return false;
+    }
+    if table::kind_at(table, k) != Event::JOIN {
+        return true;
+    }
+    has_passed(table, last, table::waits_at(table, k))
+}
+
+// Is event k enabled?
+fn is_enabled(table: &[u16], last: &[u16; Thread::COUNT], k: usize) -> bool
+    requires { ⌜ Linked (now table) × Valid (trace (now table)) k ⌝ }
+    ensures { λ r. ⌜ EnabledTold (trace (now (table .entry))) (now (last .entry)) k r ⌝ }
+{
+    if !is_next(table, last, k) {
+        return false;
+    }
+    is_ready(table, last, k)
+}
+
+// Fault 23 or 24 of an event: a read must see what it saw in the trace, an acquire must take a
 // lock that no other thread holds.
 fn access_fault(
     table: &[u16],
@@ -57,7 +98,7 @@ fn access_fault(
     let x = table::object_place(table, k);
     let kind = table::kind_at(table, k);
     if kind == Event::READ {
-        if table::wide(writes[x]) == table::observed_at(table, k) {
+        if table::wide(writes[x]) == table::waits_at(table, k) {
             return 0;
         }
         return SEES_OTHERWISE;
@@ -96,7 +137,14 @@ fn fault_at(
     if !is_next(table, last, at) {
         return NOT_NEXT;
     }
-    access_fault(table, writes, locks, at)
+    let fault = access_fault(table, writes, locks, at);
+    if fault != 0 {
+        return fault;
+    }
+    if !is_ready(table, last, at) {
+        return NOT_READY;
+    }
+    0
 }
 
 // Event k is passed. Of the releases only a last one, which is linked to itself, frees its lock.
@@ -176,10 +224,10 @@ fn first_fault(table: &[u16], a: u16, b: u16, list: &[u16]) -> u8
     if fault != 0 {
         return fault;
     }
-    if !is_next(table, &last, a as usize) {
+    if !is_enabled(table, &last, a as usize) {
         return LOWER_NOT_ENABLED;
     }
-    if !is_next(table, &last, b as usize) {
+    if !is_enabled(table, &last, b as usize) {
         return HIGHER_NOT_ENABLED;
     }
     0

@@ -2,7 +2,7 @@
 use Prim.Native.Nat.{ℕ}
 use native.Mathlib.Omega.{arith}
 use mathlib.Core.Path.{_≡_, sym, _∙_, ap}
-use mathlib.Core.Logic.{_≢_}
+use mathlib.Core.Logic.{_≢_, inr, ⊎-elim}
 use mathlib.Core.Bool.{Bool, true, false}
 use mathlib.Core.List.{List}
 use lib.ListN.{getD}
@@ -11,19 +11,22 @@ use borrow.Author.Tests.{eqb-true, eqb-false}
 use Rattle.model.specs.Trace.{Trace, threadOf}
 use Rattle.model.specs.Cone.{Outside, brought, observes, closes}
 use Rattle.model.proofs.Tests.{by-cases, clash}
-use Rattle.table.specs.Links.{observedBy, releaseOf}
+use Rattle.table.specs.Links.{waitsFor, releaseOf, forkOf}
 use Rattle.table.specs.Table.{trace, Linked}
-use Rattle.table.proofs.LinkFacts.{observed-less, observed-reads, release-acquires, release-after}
-use Rattle.cone.specs.Following.{noRoot, hasRoot, Bars, Within, Coming, Grown, Answer, going, Raised, Brought, BringsIn}
+use Rattle.table.proofs.LinkFacts.{waits-less, waits-cases, fork-awaited, release-acquires, release-after}
+use Rattle.cone.specs.Following.{noRoot, hasRoot, Bars, Within, Coming, Grown, Answer, going, Raised, Forked, Brought, BringsIn}
 use Rattle.cone.proofs.BarLaws.{no-root}
-use Rattle.cone.proofs.RaiseLaws.{goes, answers, grown-more}
+use Rattle.cone.proofs.RaiseLaws.{goes, answers, within-before, grown-more}
 
 -- what has come in stays in
 pub brought-kept : {t : Trace} {bars tops tops′ : List ℕ} → Grown tops tops′ → {k : ℕ} → Brought t bars tops k → Brought t bars tops′ k
 brought-kept {t} {bars} {tops} {tops′} g {k} b = record {
-  seen = let x = g .up (threadOf t (observedBy t k)) in let y = b .seen in omega arith;
+  seen = let x = g .up (threadOf t (waitsFor t k)) in let y = b .seen in omega arith;
   closing = λ e. let x = g .up (threadOf t (releaseOf t k)) in let y = b .closing e in omega arith;
 }
+
+pub forked-kept : {t : Trace} {tops tops′ : List ℕ} → Grown tops tops′ → {k : ℕ} → Forked t tops k → Forked t tops′ k
+forked-kept {t} g {k} f = record { covers = let x = g .up (threadOf t (forkOf t k)) in let y = f .covers in omega arith }
 
 module _ {s : List ℕ} (links : Linked s) {bars : List ℕ} where
   -- a thread with no bar is none of the roots'
@@ -38,23 +41,26 @@ module _ {s : List ℕ} (links : Linked s) {bars : List ℕ} where
     abbrev t : Trace
     t = trace s
 
-    pub bring-observed : (o : ℕ) → o ≡ observedBy (trace s) k → Coming (trace s) bars o
+    pub bring-observed : (o : ℕ) → o ≡ waitsFor (trace s) k → Coming (trace s) bars o
     bring-observed o e = record {
       within = λ q.
-          let ne : observedBy t k ≢ 0 = rw e at q in
-          let x = observed-reads t k ne in
-          let v = w .valid in
-          let p = v .positive in
-          let b = v .bounded in
-          let l = observed-less t k p in
-          record {
-            valid = record { positive = omega arith; bounded = omega arith };
-            inside = λ R b. rw e (brought (w .inside R b) (observes (x .0) (x .1) ne));
-          };
+          let ne : waitsFor t k ≢ 0 = rw e at q in
+          rw e
+          (⊎-elim
+          (λ x.
+          let b = w .valid .bounded in
+          let l = waits-less t (links .good .well-formed) k (w .valid) in
+          record { valid = record { positive = omega arith; bounded = omega arith }; inside = λ R b. brought (w .inside R b) (observes (x .0) (x .1) ne) })
+          (λ x. within-before w (inr (x .1)))
+          (waits-cases t k ne));
     }
 
+    -- the fork of its thread
+    pub bring-forked : (o : ℕ) → o ≡ forkOf (trace s) k → Coming (trace s) bars o
+    bring-forked o e = record { within = λ q. rw e (within-before w (inr (fork-awaited t k (rw e at q)))) }
+
     module _ {x : Bool} (ex : x ≡ hasRoot bars (threadOf (trace s) k)) where
-      module _ {o : ℕ} (eo : o ≡ observedBy (trace s) k) {tops tops′ : List ℕ} {b : Bool} (a : Answer (trace s) bars (Raised (trace s) bars o tops tops′) b) (eb : b ≡ false) where
+      module _ {o : ℕ} (eo : o ≡ waitsFor (trace s) k) {tops tops′ : List ℕ} {b : Bool} (a : Answer (trace s) bars (Raised (trace s) bars o tops tops′) b) (eb : b ≡ false) where
         -- by a root's thread
         pub bring-exempt : x ≡ true → Answer (trace s) bars (BringsIn (trace s) bars k tops tops′) false
         bring-exempt e =

@@ -12,12 +12,12 @@ use borrow.Author.Tests.{eqb-true, eqb-false, leb-true, leb-false}
 use Rattle.model.specs.Trace.{Trace, Valid, threadOf}
 use Rattle.model.specs.Good.{maxThread}
 use Rattle.model.proofs.Tests.{by-cases}
-use Rattle.table.specs.Links.{previous}
+use Rattle.table.specs.Links.{previous, forkOf}
 use Rattle.table.specs.Table.{trace}
-use Rattle.table.proofs.LinkFacts.{previous-less, previous-earlier, previous-last}
-use Rattle.cone.specs.Following.{hasRoot, Within, Coming, Raising, Answer, going, BringsIn, Follows, Going, Caught}
+use Rattle.table.proofs.LinkFacts.{previous-less, previous-earlier, previous-last, fork-same}
+use Rattle.cone.specs.Following.{hasRoot, Within, Coming, Raising, Answer, going, Raised, BringsIn, Follows, Going, Caught}
 use Rattle.cone.proofs.RaiseLaws.{goes, answers, within-earlier, grown-none, grown-more, grown-set}
-use Rattle.cone.proofs.BringLaws.{brought-kept}
+use Rattle.cone.proofs.BringLaws.{brought-kept, forked-kept, bring-forked}
 
 -- ---- `follow`
 
@@ -93,14 +93,24 @@ module _ {s bars done tops : List ℕ} (g : Going s bars done tops) (c : ℕ) wh
   pub caught-within : (n m : ℕ) → n ≡ getD tops c 0 → m < n → Within (trace s) bars n
   caught-within n m e h = rw e (g .following .sound .within c (omega arith))
 
-  pub caught : (n m : ℕ) → n ≡ getD tops c 0 → m ≡ getD done c 0 → m < n → c ≤ maxThread → {tops′ : List ℕ} {x : Bool}
-      → Answer (trace s) bars (Follows (trace s) bars n m tops tops′) x → Answer (trace s) bars (Caught (trace s) bars c done (set done c (getD tops c 0)) tops tops′) x
-  caught n m en em h l a =
+  pub caught-valid : (n m : ℕ) → n ≡ getD tops c 0 → m < n → Valid (trace s) n
+  caught-valid n m e h = caught-within n m e h .valid
+
+  pub caught-forked : (n m : ℕ) → n ≡ getD tops c 0 → m < n → (o : ℕ) → o ≡ forkOf (trace s) n → Coming (trace s) bars o
+  caught-forked n m e h o eo = bring-forked (g .links) (caught-within n m e h) o eo
+
+  pub caught : (n m : ℕ) → n ≡ getD tops c 0 → m ≡ getD done c 0 → m < n → c ≤ maxThread → {o : ℕ} → o ≡ forkOf (trace s) n → {tops₁ : List ℕ} {b : Bool}
+      → Answer (trace s) bars (Raised (trace s) bars o tops tops₁) b → b ≡ false → {tops′ : List ℕ} {x : Bool}
+      → Answer (trace s) bars (Follows (trace s) bars n m tops₁ tops′) x → Answer (trace s) bars (Caught (trace s) bars c done (set done c (getD tops c 0)) tops tops′) x
+  caught n m en em h l {o} eo {tops₁} r er a =
       let t = trace s in
       let size = g .following .long in
       let inside : c < length done = omega arith in
       let here = getD-set-same done c (getD tops c 0) 0 inside in
-      answers (λ (f : Follows t bars n m tops _). record {
+      let k = goes r er in
+      let vn = caught-valid n m en h in
+      let tn : threadOf t n ≡ c = rw (← en) at (g .following .sound .thread c (omega arith)) in
+      answers (λ (f : Follows t bars n m tops₁ _). record {
         still = record {
           long = rw (length-set done c (getD tops c 0)) size;
           sound = f .sound;
@@ -110,15 +120,23 @@ module _ {s bars done tops : List ℕ} (g : Going s bars done tops) (c : ℕ) wh
               let ec : threadOf t j ≡ c = eqb-true _ _ z in
               let top : j ≤ getD tops c 0 = rw (ec, here) at q in
               by-cases (leb j m)
-              (λ d. let low = leb-true j m d in brought-kept (f .grown) (g .following .followed j v (rw ec (omega arith))))
+              (λ d. let low = leb-true j m d in brought-kept (grown-more (k .grown) (f .grown)) (g .following .followed j v (rw ec (omega arith))))
               (λ d.
               let high = leb-false j m d in
-              f .followed j v (ec ∙ sym (rw (← en) at (g .following .sound .thread c (omega arith)))) high (omega arith)))
+              f .followed j v (ec ∙ sym tn) high (omega arith)))
               (λ z.
               let other = getD-set-other done c (threadOf t j) (getD tops c 0) 0 (eqb-false _ _ z) in
-              brought-kept (f .grown) (g .following .followed j v (rw other at q)));
+              brought-kept (grown-more (k .grown) (f .grown)) (g .following .followed j v (rw other at q)));
+          forked = λ j v q.
+              by-cases (eqb (threadOf t j) c)
+              (λ z.
+              let e = fork-same t (g .links .good .well-formed) j n v vn (eqb-true _ _ z ∙ sym tn) in
+              record { covers = rw (e, ← eo) (let x = f .grown .up (threadOf t o) in let y = k .covers in omega arith) })
+              (λ z.
+              let other = getD-set-other done c (threadOf t j) (getD tops c 0) 0 (eqb-false _ _ z) in
+              forked-kept (grown-more (k .grown) (f .grown)) (g .following .forked j v (rw other at q)));
         };
-        grown = f .grown;
+        grown = grown-more (k .grown) (f .grown);
         further = grown-set done c (getD tops c 0) inside (omega arith);
         reaches = rw here (omega arith);
       }) a

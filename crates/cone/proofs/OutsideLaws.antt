@@ -2,27 +2,29 @@
 use Prim.Native.Nat.{ℕ, zero, suc, _+_, _-_, _≤_, _<_}
 use native.Mathlib.Omega.{arith}
 use mathlib.Core.Path.{_≡_, sym, _∙_}
-use mathlib.Core.Logic.{_≢_}
+use mathlib.Core.Logic.{_≢_, inl, inr}
 use mathlib.Core.Bool.{Bool, true, false, false≢true}
 use mathlib.Core.List.{List}
 use lib.ListN.{length, getD, replicate, length-replicate, getD-replicate, List·getD-eq-default}
 use lib.Dec.{eqb, ltb}
 use borrow.Author.Tests.{eqb-true, eqb-false, ltb-true, ltb-false}
-use Rattle.model.specs.Trace.{Trace, Valid, threadOf}
+use Rattle.model.specs.Trace.{Trace, Valid, fork, threadOf, kindOf, objectOf}
 use Rattle.model.specs.Lists.{_∈_}
 use Rattle.model.specs.Good.{maxThread}
-use Rattle.model.specs.Cone.{InCone, Brings, root, brought, earlier, observes, closes}
+use Rattle.model.specs.Cone.{InCone, Brings, root, brought, precedes, observes, closes}
+use Rattle.model.specs.Awaits.{forked, joined}
 use Rattle.model.proofs.Tests.{by-cases}
 use Rattle.model.proofs.Lists.{mem-place}
 use Rattle.model.proofs.ConeEvents.{cone-valid}
-use Rattle.table.specs.Links.{previous, observedBy, releaseOf}
+use Rattle.table.specs.Links.{previous, waitsFor, releaseOf}
 use Rattle.table.specs.Table.{trace}
-use Rattle.table.proofs.LinkFacts.{previous-earlier, previous-last, reads-observed, acquires-release}
+use Rattle.table.proofs.LinkFacts.{previous-earlier, previous-last, reads-observed, joined-last, joined-thread, fork-only, acquires-release}
 use Rattle.cone.specs.Tops.{Rooted, Told, none-in, one-in}
-use Rattle.cone.specs.Following.{noRoot, Bars, Grown, Answer, reached, going, Brought, Following, Round, Behind, Seeded}
+use Rattle.cone.specs.Following.{noRoot, Bars, Grown, Answer, reached, going, Forked, Brought, Following, Round, Behind, Seeded}
 use Rattle.cone.proofs.BarLaws.{root-no}
 use Rattle.cone.proofs.RaiseLaws.{goes, within-upto}
 use Rattle.cone.proofs.RoundLaws.{behind-one, behind-none}
+use Rattle.cone.proofs.BringLaws.{forked-kept}
 
 -- ---- before the roots
 
@@ -50,6 +52,7 @@ outside-start {t} {R} {bars} b tops e =
             (λ q. let y = b .barred .valid c l (eqb-false _ _ q) .positive in omega arith);
       };
       followed = λ j v l. let z = none (threadOf t j) in let y = v .positive in absurd (omega arith);
+      forked = λ j v l. let z = none (threadOf t j) in let y = v .positive in absurd (omega arith);
     }
 
 -- ---- after a round
@@ -97,6 +100,7 @@ module _ {t : Trace} {bars R done tops : List ℕ} (p : Seeded t bars R 0 done t
       record {
         still = f .still;
         covers = λ n l h. let y = p .covers n l h in let z = f .grown .up (threadOf t (previous t (getD R n 0))) in omega arith;
+        forked = λ n l h. forked-kept (f .grown) (p .forked n l h);
       }
 
 -- ---- at the end
@@ -116,17 +120,36 @@ module _ {s R bars done tops : List ℕ} (g : Rooted s R) (b : Bars (trace s) R 
   all-brought : (k : ℕ) → Valid t k → Under k → Brought t bars tops k
   all-brought k v u = let l = level (threadOf t k) (g .links .good .thread-limit k v) in p .still .followed k v (omega arith)
 
+  all-forked : (k : ℕ) → Valid t k → Under k → Forked t tops k
+  all-forked k v u = let l = level (threadOf t k) (g .links .good .thread-limit k v) in p .still .forked k v (omega arith)
+
+  -- what an event waits for is such a one: its thread's fork, and where the event is such a one the joined thread's events
+  forked-under : (k j : ℕ) → Valid t k → Forked t tops k → kindOf t j ≡ fork → objectOf t j ≡ threadOf t k → Under j
+  forked-under k j v u f o = rw (fork-only t (g .links .good .well-formed) k v j f o) at (u .covers)
+
   -- what such an event brings in is such a one
   reaches : (k j : ℕ) → Valid t k → Under k → Brings t R k j → Under j
-  reaches k j v u (earlier y) = let z = y .less in rw (y .thread) (omega arith)
-  reaches k j v u (observes c o ne) = let q : observedBy t k ≡ j = reads-observed t k c ∙ o in rw q at (all-brought k v u .seen)
+  reaches k j v u (precedes (inl y)) = let z = y .less in rw (y .thread) (omega arith)
+  reaches k j v u (precedes (inr (forked f o))) = forked-under k j v (all-forked k v u) f o
+  reaches k j v u (precedes (inr (joined f w o))) =
+      let low = joined-last t k j f w o in
+      let one = w .positive in
+      let e : threadOf t (waitsFor t k) ≡ threadOf t j = joined-thread t k f (λ z. let y : ⊥ = omega arith in y) ∙ sym o in
+      let x : waitsFor t k ≤ getD tops (threadOf t j) 0 = rw e at (all-brought k v u .seen) in
+      omega arith
+  reaches k j v u (observes c o ne) = let q : waitsFor t k ≡ j = reads-observed t k c ∙ o in rw q at (all-brought k v u .seen)
   reaches k j v u (closes c out o ne) =
       let q : releaseOf t k ≡ j = acquires-release t k c ∙ o in
       let lc = g .links .good .thread-limit k v in
       rw q at (all-brought k v u .closing (root-no bars (threadOf t k) (λ y. out (getD bars (threadOf t k) 0) (b .root (threadOf t k) lc y) (b .barred .thread (threadOf t k) lc y))))
 
   all : {k : ℕ} → InCone t R k → Under k
-  all {k} (root {r = r} m x) =
+  all {k} (root {r = r} m (inr (forked f o))) =
+      let y = mem-place m in
+      let h : Forked t tops r = rw (y .2) at (p .forked (y .0) (omega arith) (y .1)) in
+      forked-under r k (b .valid r m) h f o
+  all {k} (root {r = r} m (inr (joined f w o))) = absurd (g .no-join r m f)
+  all {k} (root {r = r} m (inl x)) =
       let y = mem-place m in
       let h : previous t r ≤ getD tops (threadOf t (previous t r)) 0 = rw (y .2) at (p .covers (y .0) (omega arith) (y .1)) in
       let low = previous-last t k r x in

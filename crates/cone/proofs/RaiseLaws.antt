@@ -2,7 +2,7 @@
 use Prim.Native.Nat.{ℕ, _≤_, _<_}
 use native.Mathlib.Omega.{arith}
 use mathlib.Core.Path.{_≡_, sym, _∙_}
-use mathlib.Core.Logic.{_≢_}
+use mathlib.Core.Logic.{_≢_, inl}
 use mathlib.Core.Bool.{Bool, true, false, true≢false, false≢true}
 use mathlib.Core.List.{List}
 use lib.ListN.{length, getD, set, length-set}
@@ -13,9 +13,9 @@ use mir.Val.{Fits}
 use borrow.Author.Tests.{eqb-true, eqb-false}
 use Rattle.model.specs.Trace.{Trace, Valid, threadOf}
 use Rattle.model.specs.Good.{maxThread}
-use Rattle.model.specs.Cone.{Earlier, brought, earlier}
+use Rattle.model.specs.Cone.{Earlier, Precedes, brought, precedes}
 use Rattle.model.proofs.Tests.{by-cases}
-use Rattle.model.proofs.ConeEvents.{earlier-valid}
+use Rattle.model.proofs.ConeEvents.{precedes-valid}
 use Rattle.table.specs.Table.{trace}
 use Rattle.cone.specs.Following.{noRoot, Within, Coming, Raising, Grown, Answer, reached, going, Raised}
 
@@ -36,8 +36,11 @@ answers f (going g) = going (f g)
 
 -- ---- what is in the cone
 
+pub within-before : {t : Trace} {bars : List ℕ} {j k : ℕ} → Within t bars k → Precedes t j k → Within t bars j
+within-before {t} {bars} {j} {k} w e = record { valid = precedes-valid t j k (w .valid) e; inside = λ R b. brought (w .inside R b) (precedes e) }
+
 pub within-earlier : {t : Trace} {bars : List ℕ} {j k : ℕ} → Within t bars k → Earlier t j k → Within t bars j
-within-earlier {t} {bars} {j} {k} w e = record { valid = earlier-valid t j k (w .valid) e; inside = λ R b. brought (w .inside R b) (earlier e) }
+within-earlier w e = within-before w (inl e)
 
 -- so are the events of a thread up to one that is
 pub within-upto : {t : Trace} {bars : List ℕ} {k : ℕ} → Within t bars k → (j : ℕ) → 1 ≤ j → j ≤ k → threadOf t j ≡ threadOf t k → Within t bars j

@@ -2,7 +2,7 @@
 use Prim.Native.Nat.{ℕ, _+_, _-_, _≤_, _<_}
 use native.Mathlib.Omega.{arith}
 use mathlib.Core.Path.{_≡_}
-use mathlib.Core.Logic.{_≢_}
+use mathlib.Core.Logic.{_≢_, inl, inr}
 use mathlib.Core.Bool.{Bool, true, false, true≢false, false≢true}
 use mathlib.Core.List.{List}
 use lib.ListN.{length, getD}
@@ -10,16 +10,16 @@ use lib.Dec.{eqb}
 use borrow.Author.Tests.{eqb-true, eqb-false}
 use Rattle.model.specs.Trace.{Trace, threadOf}
 use Rattle.model.specs.Good.{maxThread}
-use Rattle.model.specs.Cone.{root}
+use Rattle.model.specs.Cone.{Precedes, root}
 use Rattle.model.proofs.Tests.{by-cases}
-use Rattle.model.proofs.ConeEvents.{earlier-valid}
+use Rattle.model.proofs.ConeEvents.{precedes-valid}
 use Rattle.model.proofs.Lists.{getD-mem}
-use Rattle.table.specs.Links.{previous}
+use Rattle.table.specs.Links.{previous, forkOf}
 use Rattle.table.specs.Table.{trace, Linked}
-use Rattle.table.proofs.LinkFacts.{previous-earlier}
-use Rattle.cone.specs.Following.{noRoot, Bars, Coming, Answer, going, Raised, Following, Going, Caught, Round, Behind, one-behind, none-behind, IsRoot, Started, Seeded}
+use Rattle.table.proofs.LinkFacts.{previous-earlier, fork-awaited}
+use Rattle.cone.specs.Following.{noRoot, Bars, Within, Coming, Answer, going, Raised, Following, Going, Caught, Round, Behind, one-behind, none-behind, IsRoot, BeforeRoot, Started, Seeded}
 use Rattle.cone.proofs.RaiseLaws.{goes, answers, grown-none, grown-more}
-use Rattle.cone.proofs.BringLaws.{brought-kept}
+use Rattle.cone.proofs.BringLaws.{brought-kept, forked-kept}
 
 -- ---- `behind`
 
@@ -77,39 +77,54 @@ module _ {s bars done tops : List ℕ} (g : Going s bars done tops) where
 -- ---- `start`
 
 module _ {s : List ℕ} (links : Linked s) {bars : List ℕ} where
+  before-root : (p r : ℕ) → IsRoot (trace s) bars r → Precedes (trace s) p r → Within (trace s) bars p
+  before-root p r i x =
+      let t = trace s in
+      let v = i .valid in
+      let size = links .good .size in
+      let high = v .bounded in
+      let ne : getD bars (threadOf t r) 0 ≢ noRoot = λ z. let y = i .bar in let u : ⊥ = omega arith in u in
+      record {
+        valid = precedes-valid t p r v x;
+        inside = λ R b. let m = b .root (threadOf t r) (links .good .thread-limit r v) ne in root (rw (i .bar) at m) x;
+      }
+
   pub start-coming : (p r : ℕ) → p ≡ previous (trace s) r → IsRoot (trace s) bars r → Coming (trace s) bars p
-  start-coming p r e i = record {
-    within = λ q.
-        let t = trace s in
-        let x = previous-earlier t r (rw e at q) in
-        let v = i .valid in
-        let size = links .good .size in
-        let high = v .bounded in
-        let ne : getD bars (threadOf t r) 0 ≢ noRoot = λ z. let y = i .bar in let u : ⊥ = omega arith in u in
-        record {
-          valid = rw e (earlier-valid t (previous t r) r v x);
-          inside = λ R b. let m = b .root (threadOf t r) (links .good .thread-limit r v) ne in rw e (root (rw (i .bar) at m) x);
-        };
-  }
+  start-coming p r e i = record { within = λ q. rw e (before-root (previous (trace s) r) r i (inl (previous-earlier (trace s) r (rw e at q)))) }
+
+  pub start-forked : (p r : ℕ) → p ≡ forkOf (trace s) r → IsRoot (trace s) bars r → Coming (trace s) bars p
+  start-forked p r e i = record { within = λ q. rw e (before-root (forkOf (trace s) r) r i (inr (fork-awaited (trace s) r (rw e at q)))) }
 
 module _ {t : Trace} {bars : List ℕ} where
-  pub following-kept : {k : ℕ} {done tops tops′ : List ℕ} → Following t bars done tops → Raised t bars k tops tops′ → Following t bars done tops′
-  following-kept f r = record { long = f .long; sound = r .sound; followed = λ j v l. brought-kept (r .grown) (f .followed j v l) }
+  pub before-both : {o p r : ℕ} → o ≡ forkOf t r → p ≡ previous t r → {tops tops₁ tops′ : List ℕ} {y x : Bool}
+      → Answer t bars (Raised t bars o tops tops₁) y → y ≡ false → Answer t bars (Raised t bars p tops₁ tops′) x → Answer t bars (BeforeRoot t bars r tops tops′) x
+  before-both {o} {p} {r} eo ep {tops} {tops₁} {tops′} i ei a =
+      let g = goes i ei in
+      answers (λ (f : Raised t bars p tops₁ tops′). record {
+        sound = f .sound;
+        grown = grown-more (g .grown) (f .grown);
+        covers = rw (← ep) (f .covers);
+        forked = record { covers = rw (← eo) (let x = f .grown .up (threadOf t o) in let y = g .covers in omega arith) };
+      }) a
 
-  pub started : {p r : ℕ} → p ≡ previous t r → {done done′ tops tops′ tops″ : List ℕ} {c : ℕ} {b x : Bool} → Answer t bars (Raised t bars p tops tops′) b → b ≡ false
+  pub following-kept : {r : ℕ} {done tops tops′ : List ℕ} → Following t bars done tops → BeforeRoot t bars r tops tops′ → Following t bars done tops′
+  following-kept f r = record { long = f .long; sound = r .sound; followed = λ j v l. brought-kept (r .grown) (f .followed j v l); forked = λ j v l. forked-kept (r .grown) (f .forked j v l) }
+
+  pub started : {r : ℕ} {done done′ tops tops′ tops″ : List ℕ} {c : ℕ} {b x : Bool} → Answer t bars (BeforeRoot t bars r tops tops′) b → b ≡ false
       → Answer t bars (Caught t bars c done done′ tops′ tops″) x → Answer t bars (Started t bars r done′ tops tops″) x
-  started {p} {r} e {done} {done′} {tops} {tops′} {tops″} {c} a eb d =
+  started {r} {done} {done′} {tops} {tops′} {tops″} {c} a eb d =
       let f = goes a eb in
       answers (λ (h : Caught t bars c done done′ tops′ tops″). record {
         still = h .still;
         grown = grown-more (f .grown) (h .grown);
-        covers = rw (← e) (let x = h .grown .up (threadOf t p) in let y = f .covers in omega arith);
+        covers = let x = h .grown .up (threadOf t (previous t r)) in let y = f .covers in omega arith;
+        forked = forked-kept (h .grown) (f .forked);
       }) d
 
 -- ---- `seed`
 
 pub seed-start : {s bars done tops : List ℕ} → Going s bars done tops → (R : List ℕ) (i : ℕ) → i ≡ length R → Seeded (trace s) bars R i done tops
-seed-start g R i e = record { still = g .following; covers = λ n l h. absurd (omega arith) }
+seed-start g R i e = record { still = g .following; covers = λ n l h. absurd (omega arith); forked = λ n l h. absurd (omega arith) }
 
 pub seed-root : {t : Trace} {R bars : List ℕ} → Bars t R bars → (r i : ℕ) → r ≡ getD R i 0 → i < length R → IsRoot t bars r
 seed-root {R = R} b r i e h = let m = getD-mem R i h in rw e (record { valid = b .valid (getD R i 0) m; bar = b .bar (getD R i 0) m })
@@ -127,7 +142,11 @@ module _ {t : Trace} {bars R : List ℕ} {i : ℕ} {done tops : List ℕ} (p : S
             let ne = eqb-false n (i - 1) q in
             let x = p .covers n (omega arith) h in
             let y = f .grown .up (threadOf t (previous t (getD R n 0))) in omega arith);
+        forked = λ n l h.
+            by-cases (eqb n (i - 1))
+            (λ q. let z = eqb-true n (i - 1) q in rw (z, ← e) (f .forked))
+            (λ q. let ne = eqb-false n (i - 1) q in forked-kept (f .grown) (p .forked n (omega arith) h));
       }
 
 pub seed-end : {t : Trace} {bars R : List ℕ} {i : ℕ} {done tops : List ℕ} → Seeded t bars R i done tops → i ≤ 0 → Answer t bars (Seeded t bars R 0 done tops) false
-seed-end p h = going (record { still = p .still; covers = λ n l u. p .covers n (omega arith) u })
+seed-end p h = going (record { still = p .still; covers = λ n l u. p .covers n (omega arith) u; forked = λ n l u. p .forked n (omega arith) u })

@@ -10,7 +10,7 @@ use Rattle.model.specs.Trace.{Trace, Valid, threadOf}
 use Rattle.model.specs.Lists.{_∈_}
 use Rattle.model.specs.Good.{maxThread}
 use Rattle.model.specs.Cone.{InCone}
-use Rattle.table.specs.Links.{previous, observedBy, releaseOf}
+use Rattle.table.specs.Links.{previous, waitsFor, releaseOf, forkOf}
 use Rattle.table.specs.Table.{trace, Linked}
 
 -- ---- the roots by thread
@@ -76,9 +76,13 @@ pub record Raised (t : Trace) (bars : List ℕ) (k : ℕ) (tops tops′ : List �
   pub grown : Grown tops tops′
   pub covers : k ≤ getD tops′ (threadOf t k) 0
 
--- what event k brings in is up to the tops: its observed write and, where its thread is no root's, its matching release
+-- the fork of event k's thread, if it has one, is up to the top of its own
+pub record Forked (t : Trace) (tops : List ℕ) (k : ℕ) : Type 0 where
+  pub covers : forkOf t k ≤ getD tops (threadOf t (forkOf t k)) 0
+
+-- what event k brings in is up to the tops: its observed write or the joined thread's events and, where its thread is no root's, its matching release
 pub record Brought (t : Trace) (bars tops : List ℕ) (k : ℕ) : Type 0 where
-  pub seen : observedBy t k ≤ getD tops (threadOf t (observedBy t k)) 0
+  pub seen : waitsFor t k ≤ getD tops (threadOf t (waitsFor t k)) 0
   pub closing : hasRoot bars (threadOf t k) ≡ false → releaseOf t k ≤ getD tops (threadOf t (releaseOf t k)) 0
 
 -- event k has brought in its own, and no top fell
@@ -93,11 +97,12 @@ pub record Follows (t : Trace) (bars : List ℕ) (n m : ℕ) (tops tops′ : Lis
   pub grown : Grown tops tops′
   pub followed : (j : ℕ) → Valid t j → threadOf t j ≡ threadOf t n → m < j → j ≤ n → Brought t bars tops′ j
 
--- the events of each thread c up to place c of done have brought in their own
+-- the events of each thread c up to place c of done have brought in their own, and the thread's fork
 pub record Following (t : Trace) (bars done tops : List ℕ) : Type 0 where
   pub long : maxThread < length done
   pub sound : Sound t bars tops
   pub followed : (j : ℕ) → Valid t j → j ≤ getD done (threadOf t j) 0 → Brought t bars tops j
+  pub forked : (j : ℕ) → Valid t j → j ≤ getD done (threadOf t j) 0 → Forked t tops j
 
 -- a table, the bars, the tops so far, and how far each thread was followed
 pub record Going (s bars done tops : List ℕ) : Type 0 where
@@ -129,13 +134,22 @@ pub record IsRoot (t : Trace) (bars : List ℕ) (r : ℕ) : Type 0 where
   pub valid : Valid t r
   pub bar : getD bars (threadOf t r) 0 ≡ r
 
--- the event before root r is up to the top of its thread
+-- the event before root r is up to the top of its thread, and so is the fork of that
+pub record BeforeRoot (t : Trace) (bars : List ℕ) (r : ℕ) (tops tops′ : List ℕ) : Type 0 where
+  pub sound : Sound t bars tops′
+  pub grown : Grown tops tops′
+  pub covers : previous t r ≤ getD tops′ (threadOf t (previous t r)) 0
+  pub forked : Forked t tops′ r
+
+-- so it is, and the thread was followed
 pub record Started (t : Trace) (bars : List ℕ) (r : ℕ) (done tops tops′ : List ℕ) : Type 0 where
   pub still : Following t bars done tops′
   pub grown : Grown tops tops′
   pub covers : previous t r ≤ getD tops′ (threadOf t (previous t r)) 0
+  pub forked : Forked t tops′ r
 
 -- so are those before the roots from place i on
 pub record Seeded (t : Trace) (bars R : List ℕ) (i : ℕ) (done tops : List ℕ) : Type 0 where
   pub still : Following t bars done tops
   pub covers : (n : ℕ) → i ≤ n → n < length R → previous t (getD R n 0) ≤ getD tops (threadOf t (previous t (getD R n 0))) 0
+  pub forked : (n : ℕ) → i ≤ n → n < length R → Forked t tops (getD R n 0)

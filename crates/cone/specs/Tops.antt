@@ -5,16 +5,17 @@ use mathlib.Core.Logic.{_≢_, _↔_}
 use mathlib.Core.Bool.{Bool, true, false}
 use mathlib.Core.List.{List}
 use lib.ListN.{getD}
-use Rattle.model.specs.Trace.{Trace, Valid, threadOf}
+use Rattle.model.specs.Trace.{Trace, Valid, join, threadOf, kindOf}
 use Rattle.model.specs.Lists.{_∈_}
 use Rattle.model.specs.Cone.{InCone}
 use Rattle.model.specs.Race.{Apart}
 use Rattle.table.specs.Table.{trace, Linked}
 
--- what the cone is made of: a table with its links, and the roots, events of different threads
+-- what the cone is made of: a table with its links, and the roots, events of different threads, none of them a join
 pub record Rooted (s R : List ℕ) : Type 0 where
   pub links : Linked s
   pub apart : Apart (trace s) R
+  pub no-join : (r : ℕ) → r ∈ R → kindOf (trace s) r ≢ join
 
 -- place c is 0, or an event of thread c
 pub record Topped (t : Trace) (tops : List ℕ) : Type 0 where

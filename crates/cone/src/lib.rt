@@ -10,7 +10,7 @@ ghost use Rattle.model.specs.Lists.{allBut};
 ghost use Rattle.model.specs.Good.{Good, maxThread};
 ghost use Rattle.table.specs.Table.{trace};
 ghost use Rattle.cone.specs.Tops.{Rooted, Told};
-ghost use Rattle.cone.specs.Following.{noRoot, hasRoot, Bars, Within, Coming, Raising, Answer, Raised, BringsIn, Follows, Going, Caught, Round, Behind, IsRoot, Started, Seeded};
+ghost use Rattle.cone.specs.Following.{noRoot, hasRoot, Bars, Within, Coming, Raising, Answer, Raised, BringsIn, Follows, Going, Caught, Round, Behind, IsRoot, BeforeRoot, Started, Seeded};
 ghost use Rattle.cone.specs.Split.{Splits, Moved, Others, isOf, Putting, Highest};
 
 // The bar of a thread that no root is of: no event reaches it.
@@ -78,8 +78,8 @@ fn raise(
     false
 }
 
-// What event k, which is in the cone, brings in: its observed write (rule iii) and, unless its thread is a root's (`exempt`), its matching release (iv);
-// a last release is linked to itself. Is a root in the cone then?
+// What event k, which is in the cone, brings in: its observed write (rule iii), or the events of the thread that it joins, up to the last; and, unless its
+// thread is a root's (`exempt`), its matching release (iv); a last release is linked to itself. Is a root in the cone then?
 fn bring(
     table: &[u16],
     bars: &[u16; Thread::COUNT],
@@ -90,7 +90,7 @@ fn bring(
     requires { ⌜ Raising (now table) (now bars) (now tops) × (Within (trace (now table)) (now bars) k × (exempt ≡ hasRoot (now bars) (threadOf (trace (now table)) k))) ⌝ }
     ensures { λ r. ⌜ Answer (trace (now (table .entry))) (now (bars .entry)) (BringsIn (trace (now (table .entry))) (now (bars .entry)) k (now (tops .entry)) (now (tops .exit))) r ⌝ }
 {
-    if raise(table, bars, table::observed_at(table, k), tops) {
+    if raise(table, bars, table::waits_at(table, k), tops) {
         return true;
     }
     if exempt {
@@ -121,7 +121,7 @@ fn follow(
     false
 }
 
-// Thread c is followed from its top back to where it was followed before. Is a root in the cone then?
+// Thread c is followed from its top back to where it was followed before, and its fork is in the cone. Is a root in the cone then?
 fn catch_up(
     table: &[u16],
     bars: &[u16; Thread::COUNT],
@@ -138,6 +138,9 @@ fn catch_up(
         return false;
     }
     done[c] = tops[c];
+    if raise(table, bars, table::forked_at(table, from), tops) {
+        return true;
+    }
     follow(table, bars, from, to, tops)
 }
 
@@ -175,7 +178,23 @@ fn round(
     false
 }
 
-// The event before root r in its thread is in the cone (rule i), and the thread is followed from there. Is a root in the cone then?
+// What must stand before root r is in the cone: the fork of its thread, and the event before it there (rule i). Is a root in the cone then?
+fn before_root(
+    table: &[u16],
+    bars: &[u16; Thread::COUNT],
+    r: usize,
+    tops: &mut [u16; Thread::COUNT],
+) -> bool
+    requires { ⌜ Raising (now table) (now bars) (now tops) × IsRoot (trace (now table)) (now bars) r ⌝ }
+    ensures { λ x. ⌜ Answer (trace (now (table .entry))) (now (bars .entry)) (BeforeRoot (trace (now (table .entry))) (now (bars .entry)) r (now (tops .entry)) (now (tops .exit))) x ⌝ }
+{
+    if raise(table, bars, table::forked_at(table, r), tops) {
+        return true;
+    }
+    raise(table, bars, table::previous_at(table, r), tops)
+}
+
+// So it is, and the thread is followed from there. Is a root in the cone then?
 fn start(
     table: &[u16],
     bars: &[u16; Thread::COUNT],
@@ -186,7 +205,7 @@ fn start(
     requires { ⌜ Going (now table) (now bars) (now done) (now tops) × IsRoot (trace (now table)) (now bars) r ⌝ }
     ensures { λ x. ⌜ Answer (trace (now (table .entry))) (now (bars .entry)) (Started (trace (now (table .entry))) (now (bars .entry)) r (now (done .exit)) (now (tops .entry)) (now (tops .exit))) x ⌝ }
 {
-    if raise(table, bars, table::previous_at(table, r), tops) {
+    if before_root(table, bars, r, tops) {
         return true;
     }
     catch_up(table, bars, table::thread_place(table, r), done, tops)

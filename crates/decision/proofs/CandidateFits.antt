@@ -36,6 +36,7 @@ module _ (t : Trace) (R : List ℕ) (m : ℕ) (w : WellFormed t) (ρ : List ℕ)
 
   pub candidate-fits : Fits t R Soon
   candidate-fits = record {
+    awaiting = λ j k x a. let s = at-place k x in s .before-it j (s .step .enabled .ready j a);
     observing = λ k o x r e ne.
         let s = at-place k x in
         let d : lastWrite t (objectOf t k) (s .past) ≡ o = s .step .sees r ∙ e in

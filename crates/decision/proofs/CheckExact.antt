@@ -2,19 +2,22 @@
 use Prim.Native.Nat.{ℕ, zero, suc}
 use mathlib.Core.Path.{_≡_, refl, ap₂}
 use mathlib.Core.Logic.{_⊎_, inl, inr, ⊎-elim, _↔_}
-use mathlib.Core.Bool.{true, not, false≢true}
+use mathlib.Core.Bool.{true, not, _&&_, false≢true}
 use mathlib.Core.List.{List, [], _∷_, _++_, reverse}
 use lib.ListN.{length}
 use lib.Dec.{eqb, leb}
-use borrow.Author.Tests.{eqb-true, eq-eqb, leb-true, le-leb}
-use Rattle.model.specs.Trace.{Trace, Valid, read, acquire, threadOf, kindOf}
-use Rattle.model.specs.Lists.{own, before}
+use borrow.Author.Tests.{eqb-true, eq-eqb, leb-true, le-leb, not-true}
+use Rattle.model.specs.Trace.{Trace, Valid, read, acquire, fork, join, threadOf, kindOf, objectOf, does}
+use Rattle.model.specs.Lists.{own, before, numbers, listed}
 use Rattle.model.specs.Good.{Free}
-use Rattle.model.specs.Reordering.{Next, Sees, Step, Correct, CorrectFrom, EnabledAfter, BringsBoth}
+use Rattle.model.specs.Awaits.{Awaits, forked, joined}
+use Rattle.model.specs.Reordering.{Next, Ready, Sees, Step, Correct, CorrectFrom, EnabledAfter, BringsBoth}
 use Rattle.model.specs.Rows.{Row, First, Quiet, Tested, numbered, first, orZero}
 use Rattle.model.specs.Check.{placeRows, listRows, enabledRows, checkRows, CheckAnswer}
-use Rattle.decision.specs.Check.{sameList, isValid, isNext, isSeen, isOpen, isFree, placeTests, placeFault, firstOf, faultFrom, isCorrect, isEnabled, check}
-use Rattle.model.proofs.Tests.{both, true-both, either-true, true-either}
+use Rattle.decision.specs.Check.{sameList, isValid, isNext, isSeen, isOpen, isFree, isAwaited, isReady, placeTests, placeFault, firstOf, faultFrom, isCorrect, isEnabled, check}
+use Rattle.model.proofs.Tests.{by-cases, clash, both, true-both, either-true, true-either, or-right, false-test, does-true, true-does}
+use Rattle.model.proofs.Lists.{any-mem, mem-any, mem-listed, listed-mem, numbers-mem}
+use Rattle.model.proofs.AwaitsExact.{awaits-valid}
 use Rattle.model.proofs.Threads.{for-pair, in-pair-a, in-pair-b}
 use Rattle.model.proofs.RowsExact.{first-only, none-quiet, quiet-none, both-quiet, quiet-both, not-exactly, kind-exactly, surely, tests-number, number-only, skip, stop}
 
@@ -54,7 +57,38 @@ module _ (t : Trace) where
   unfolding isValid
   true-valid k v = true-both (le-leb 1 k (v .positive)) (le-leb k (length t) (v .bounded))
 
+  pub awaited-true : (k j : ℕ) → isAwaited t k j ≡ true → Awaits t k j
+  unfolding isAwaited
+  awaited-true k j e =
+      ⊎-elim
+      (λ p. let d = does-true t fork (threadOf t k) j p in forked (d .0) (d .1))
+      (λ p.
+      let q = both (eqb (kindOf t k) join) _ p in
+      let r = both (isValid t j) (eqb (threadOf t j) (objectOf t k)) (q .1) in
+      joined (eqb-true _ _ (q .0)) (valid-true j (r .0)) (eqb-true _ _ (r .1)))
+      (either-true (does t fork (threadOf t k) j) _ e)
+
+  pub true-awaited : (k j : ℕ) → Awaits t k j → isAwaited t k j ≡ true
+  unfolding isAwaited
+  true-awaited k j (forked f o) = rw (true-does t fork (threadOf t k) j f o)
+  true-awaited k j (joined f v o) = or-right (does t fork (threadOf t k) j) (true-both (eq-eqb _ _ f) (true-both (true-valid j v) (eq-eqb _ _ o)))
+
   module _ (h : List ℕ) (k : ℕ) where
+    pub ready-true : isReady t h k ≡ true → Ready t h k
+    unfolding isReady
+    ready-true e j a =
+        by-cases (listed j h) (λ d. listed-mem j h d) (λ d.
+        let n : isAwaited t k j && not (listed j h) ≡ true = rw (true-awaited k j a, d) in
+        clash (any-mem (λ j. isAwaited t k j && not (listed j h)) (numbers-mem t j (awaits-valid t k j a)) n) (not-true _ e))
+
+    pub true-ready : Ready t h k → isReady t h k ≡ true
+    unfolding isReady
+    true-ready r =
+        rw (false-test {P = ⊥} (λ e.
+        let x = mem-any (λ j. isAwaited t k j && not (listed j h)) (numbers t) e in
+        let p = both (isAwaited t k (x .0)) _ (x .2) in
+        clash (mem-listed (r (x .0) (awaited-true k (x .0) (p .0)))) (not-true _ (p .1))) (λ z. z))
+
     pub next-true : isNext t h k ≡ true → Next t h k
     unfolding isNext
     next-true e = let p = both (isValid t k) _ e in record { valid = valid-true k (p .0); turn = same-eq _ _ (p .1) }
@@ -85,22 +119,22 @@ module _ (t : Trace) where
     unfolding placeTests
     place-tested = (
       not-exactly (valid-true k) (true-valid k),
-      (not-exactly next-true true-next, (kind-exactly seen-true true-seen (kindOf t k) read, (kind-exactly free-true true-free (kindOf t k) acquire, tt))),
+      (not-exactly next-true true-next, (kind-exactly seen-true true-seen (kindOf t k) read, (kind-exactly free-true true-free (kindOf t k) acquire, (not-exactly ready-true true-ready, tt)))),
     )
 
     place-first : First (placeRows t h k) (numbered (placeFault t h k))
     unfolding placeFault
-    place-first = tests-number (placeTests t h k) (21 ∷ 22 ∷ 23 ∷ 24 ∷ []) (placeRows t h k) place-tested refl refl
+    place-first = tests-number (placeTests t h k) (21 ∷ 22 ∷ 23 ∷ 24 ∷ 27 ∷ []) (placeRows t h k) place-tested refl refl
 
     quiet-step : Quiet (placeRows t h k) → Step t h k
     quiet-step q = record {
-      enabled = record { next = surely next-true true-next (q .1 .0) };
+      enabled = record { next = surely next-true true-next (q .1 .0); ready = surely ready-true true-ready (q .1 .1 .1 .1 .0) };
       sees = λ r. surely seen-true true-seen (λ n. q .1 .1 .0 (r, n));
       free = λ r. surely free-true true-free (λ n. q .1 .1 .1 .0 (r, n));
     }
 
     step-quiet : Step t h k → Quiet (placeRows t h k)
-    step-quiet s = ((λ n. n (s .enabled .next .valid)), ((λ n. n (s .enabled .next)), ((λ p. p .1 (s .sees (p .0))), ((λ p. p .1 (s .free (p .0))), tt))))
+    step-quiet s = ((λ n. n (s .enabled .next .valid)), ((λ n. n (s .enabled .next)), ((λ p. p .1 (s .sees (p .0))), ((λ p. p .1 (s .free (p .0))), ((λ n. n (s .enabled .ready)), tt)))))
 
     pub clean-step : placeFault t h k ≡ 0 → Step t h k
     clean-step e = quiet-step (none-quiet (placeRows t h k) (rw e at place-first))
@@ -133,11 +167,11 @@ module _ (t : Trace) where
   module _ (ρ : List ℕ) (k : ℕ) where
     enabled-true : isEnabled t ρ k ≡ true → EnabledAfter t ρ k
     unfolding isEnabled
-    enabled-true e = record { next = next-true (reverse ρ) k e }
+    enabled-true e = let p = both (isNext t (reverse ρ) k) _ e in record { next = next-true (reverse ρ) k (p .0); ready = ready-true (reverse ρ) k (p .1) }
 
     true-enabled : EnabledAfter t ρ k → isEnabled t ρ k ≡ true
     unfolding isEnabled
-    true-enabled e = true-next (reverse ρ) k (e .next)
+    true-enabled e = true-both (true-next (reverse ρ) k (e .next)) (true-ready (reverse ρ) k (e .ready))
 
   module _ (a b : ℕ) (ρ : List ℕ) where
     check-first : First (checkRows t a b ρ) (numbered (check t a b ρ))

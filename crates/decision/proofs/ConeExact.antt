@@ -11,12 +11,14 @@ use borrow.Author.Tests.{eqb-true, eq-eqb, ltb-true, lt-ltb, not-true}
 use Rattle.model.specs.Trace.{Trace, Valid, read, acquire, threadOf, kindOf}
 use Rattle.model.specs.Lists.{_∈_, upTo, keep}
 use Rattle.model.specs.Observed.{observed}
-use Rattle.model.specs.Cone.{InCone, Brings, Earlier, Outside, root, brought, earlier, observes, closes, matching}
+use Rattle.model.specs.Cone.{InCone, Brings, Earlier, Precedes, Outside, root, brought, precedes, observes, closes, matching}
 use Rattle.model.specs.Race.{Increasing}
-use Rattle.decision.specs.Rounds.{isBrought, rounds, isEarlier, isRooted, isObserved, isExempt, isClosing, brings, cone}
+use Rattle.decision.specs.Rounds.{isBrought, rounds, isEarlier, isPreceding, isRooted, isObserved, isExempt, isClosing, brings, cone}
 use Rattle.model.proofs.Tests.{by-cases, clash, both, true-both, either-true, true-either, or-right}
 use Rattle.model.proofs.Lists.{any-mem, mem-any, mem-reverse, reverse-mem, increasing-reverse}
 use Rattle.model.proofs.ConeEvents.{cone-valid}
+use Rattle.decision.specs.Check.{isAwaited}
+use Rattle.decision.proofs.CheckExact.{awaited-true, true-awaited}
 use Rattle.decision.proofs.LeastSet.{Monotone, rounds-fixed, least-step, least-in}
 
 module _ (t : Trace) (R : List ℕ) where
@@ -31,6 +33,14 @@ module _ (t : Trace) (R : List ℕ) where
   unfolding isEarlier
   true-earlier j k e = true-both (lt-ltb j k (e .less)) (eq-eqb _ _ (e .thread))
 
+  preceding-true : (j k : ℕ) → 1 ≤ j → isPreceding t j k ≡ true → Precedes t j k
+  unfolding isPreceding
+  preceding-true j k p e = ⊎-elim (λ a. inl (earlier-true j k p a)) (λ a. inr (awaited-true t k j a)) (either-true (isEarlier t j k) (isAwaited t k j) e)
+
+  true-preceding : (j k : ℕ) → Precedes t j k → isPreceding t j k ≡ true
+  unfolding isPreceding
+  true-preceding j k x = true-either (isEarlier t j k) (isAwaited t k j) (⊎-elim (λ e. inl (true-earlier j k e)) (λ a. inr (true-awaited t k j a)) x)
+
   pub exempt-false : (j : ℕ) → isExempt t R j ≡ false → Outside t R j
   unfolding isExempt
   exempt-false j e r m p = clash (any-mem (λ i. eqb (threadOf t i) (threadOf t j)) m (eq-eqb _ _ p)) e
@@ -44,13 +54,13 @@ module _ (t : Trace) (R : List ℕ) where
 
   rooted-cone : (k : ℕ) → 1 ≤ k → isRooted t R k ≡ true → InCone t R k
   unfolding isRooted
-  rooted-cone k p e = let r = mem-any (λ r. isEarlier t k r) R e in root (r .1) (earlier-true k (r .0) p (r .2))
+  rooted-cone k p e = let r = mem-any (λ r. isPreceding t k r) R e in root (r .1) (preceding-true k (r .0) p (r .2))
 
   brings-true : (j k : ℕ) → 1 ≤ k → brings t R j k ≡ true → Brings t R j k
   unfolding brings isObserved isClosing
   brings-true j k p e =
-      by-cases (isEarlier t k j)
-      (λ a. earlier (earlier-true k j p a))
+      by-cases (isPreceding t k j)
+      (λ a. precedes (preceding-true k j p a))
       (λ a.
       by-cases (isObserved t j k)
       (λ b.
@@ -63,9 +73,9 @@ module _ (t : Trace) (R : List ℕ) where
 
   true-brings : (j k : ℕ) → Brings t R j k → brings t R j k ≡ true
   unfolding brings isObserved isClosing
-  true-brings j k (earlier e) = rw (true-earlier k j e)
-  true-brings j k (observes r o ne) = or-right (isEarlier t k j) (rw (eq-eqb _ _ r, eq-eqb _ _ o))
-  true-brings j k (closes a out o ne) = or-right (isEarlier t k j) (or-right (isObserved t j k) (rw (eq-eqb _ _ a, false-exempt j out) (eq-eqb _ _ o)))
+  true-brings j k (precedes e) = rw (true-preceding k j e)
+  true-brings j k (observes r o ne) = or-right (isPreceding t k j) (rw (eq-eqb _ _ r, eq-eqb _ _ o))
+  true-brings j k (closes a out o ne) = or-right (isPreceding t k j) (or-right (isObserved t j k) (rw (eq-eqb _ _ a, false-exempt j out) (eq-eqb _ _ o)))
 
   brought-cases : (l : List ℕ) (k : ℕ) → isBrought t R l k ≡ true → (isRooted t R k ≡ true) ⊎ ((j : ℕ) × (j ∈ l) × (brings t R j k ≡ true))
   unfolding isBrought
@@ -86,7 +96,7 @@ module _ (t : Trace) (R : List ℕ) where
     unfolding isRooted
     cone-found {k} (root {r = r} m e) =
         let u = cone-valid t R v (root m e) in
-        least-step (length t) (isBrought t R) monotone k (u .positive) (u .bounded) (cases-brought found k (inl (any-mem (λ r. isEarlier t k r) m (true-earlier k r e))))
+        least-step (length t) (isBrought t R) monotone k (u .positive) (u .bounded) (cases-brought found k (inl (any-mem (λ r. isPreceding t k r) m (true-preceding k r e))))
     cone-found {k = j} (brought {k = k} x b) =
         let u = cone-valid t R v (brought x b) in
         least-step (length t) (isBrought t R) monotone j (u .positive) (u .bounded) (cases-brought found j (inr (k, cone-found x, true-brings k j b)))

@@ -11,9 +11,9 @@ use Rattle.model.specs.Lists.{listed, just, allBut, threads, pair}
 use Rattle.model.specs.Observed.{observed}
 use Rattle.model.specs.Sections.{ownDepth, isOutermost, isLast}
 use Rattle.model.specs.Cone.{givesBack, matching}
-use Rattle.decision.specs.Check.{sameList, isValid, isNext, isSeen, isFree, placeTests, placeFault, faultFrom, isCorrect, isEnabled, check}
-use Rattle.decision.specs.Refusals.{eventTests, isGood}
-use Rattle.decision.specs.Rounds.{isBrought, rounds, isEarlier, isRooted, isObserved, isExempt, isClosing, brings, cone}
+use Rattle.decision.specs.Check.{sameList, isValid, isNext, isSeen, isFree, isAwaited, isReady, placeTests, placeFault, faultFrom, isCorrect, isEnabled, check}
+use Rattle.decision.specs.Refusals.{isForked, isJoined, isBegun, isSelf, isSecond, eventTests, isGood}
+use Rattle.decision.specs.Rounds.{isBrought, rounds, isEarlier, isPreceding, isRooted, isObserved, isExempt, isClosing, brings, cone}
 use Rattle.decision.specs.Stairs.{isOpening, isAlike, isWithin, isOverwriting, isReadOver, isUnended, isBound, isKeptApart, isRising, isForced, raised, settled, leastStairs, climb, leastMerge}
 use Rattle.decision.specs.Decision.{shownFor, isAccess, isConflicting, conflictingPairs, races}
 use Rattle.model.specs.Examples.{Example, Proposal, HoldsOf, proposal, examples}
@@ -33,9 +33,9 @@ computed e =
 
 -- the one test
 pub examples-hold : map computed examples ≡ map some examples
-unfolding does listed just allBut threads observed ownDepth isOutermost isLast givesBack matching sameList isValid isNext isSeen isFree placeTests placeFault faultFrom isCorrect isEnabled check
-    eventTests isGood
-    isBrought rounds isEarlier isRooted isObserved isExempt isClosing brings cone isOpening isAlike isWithin isOverwriting isReadOver isUnended isBound isKeptApart isRising isForced raised settled leastStairs climb leastMerge
+unfolding does listed just allBut threads observed ownDepth isOutermost isLast givesBack matching sameList isValid isNext isSeen isFree isAwaited isReady placeTests placeFault faultFrom isCorrect isEnabled check
+    isForked isJoined isBegun isSelf isSecond eventTests isGood
+    isBrought rounds isEarlier isPreceding isRooted isObserved isExempt isClosing brings cone isOpening isAlike isWithin isOverwriting isReadOver isUnended isBound isKeptApart isRising isForced raised settled leastStairs climb leastMerge
     shownFor isAccess isConflicting conflictingPairs races
 examples-hold = refl
 
@@ -56,8 +56,8 @@ underLock =
 
 -- with thread 1 moved, the section of T1 must stand before that of T0, which has no end; but 6 observed 2, so it must not: there is no reordering
 pub upper-bounds-asked : (leastMerge underLock (5 ∷ 6 ∷ 7 ∷ []) (1 ∷ 2 ∷ []) ≡ 5 ∷ 6 ∷ 7 ∷ 1 ∷ 2 ∷ []) × (shownFor underLock (pair 3 8) 1 ≡ none)
-unfolding does listed just allBut observed ownDepth isOutermost isLast givesBack matching sameList isValid isNext isSeen isFree placeTests placeFault faultFrom isCorrect
-    isBrought rounds isEarlier isRooted isObserved isExempt isClosing brings cone
+unfolding does listed just allBut observed ownDepth isOutermost isLast givesBack matching sameList isValid isNext isSeen isFree isAwaited isReady placeTests placeFault faultFrom isCorrect
+    isBrought rounds isEarlier isPreceding isRooted isObserved isExempt isClosing brings cone
     isOpening isAlike isWithin isOverwriting isReadOver isUnended isBound isKeptApart isRising isForced raised settled leastStairs climb leastMerge shownFor
 upper-bounds-asked = (refl, refl)
 

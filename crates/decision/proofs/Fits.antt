@@ -11,9 +11,10 @@ use Rattle.model.specs.Trace.{Trace, Valid, read, write, kindOf, objectOf, does
 use Rattle.model.specs.Lists.{_∈_, Ordered, upTo, own}
 use Rattle.model.specs.Observed.{lastWrite, observed, LastBefore}
 use Rattle.model.specs.Good.{holder, WellFormed}
+use Rattle.model.specs.Awaits.{Awaits}
 use Rattle.model.specs.Reordering.{Enabled, Sees, Step, CorrectFrom, Correct}
 use Rattle.model.specs.Sections.{isOutermost}
-use Rattle.model.specs.Cone.{InCone, Earlier, brought, earlier, observes, matching}
+use Rattle.model.specs.Cone.{InCone, Earlier, brought, precedes, observes, matching}
 use Rattle.model.proofs.Tests.{by-cases, in-cons, true-does}
 use Rattle.model.proofs.Lists.{nearest-passes, mem-own, own-mem, mem-upTo, upTo-mem, none-nearest}
 use Rattle.model.proofs.Histories.{Legal, legal-valid, beginning, enabled-by, lastWrite-mem}
@@ -26,6 +27,8 @@ use Rattle.decision.proofs.InOrder.{Down, nearest-top}
 
 -- the rules, of an order F
 pub record Fits (t : Trace) (R : List ℕ) (F : ℕ → ℕ → Type 0) : Type 0 where
+  -- an event comes after what it waits for
+  pub awaiting : (j k : ℕ) → InCone t R k → Awaits t k j → F j k
   -- a read comes after its observed write, and one that saw the start after no write of its cell
   pub observing : (k w : ℕ) → InCone t R k → kindOf t k ≡ read → observed t k ≡ w → w ≢ 0 → F w k
   pub start : (k v : ℕ) → InCone t R k → kindOf t k ≡ read → observed t k ≡ 0 → InCone t R v → does t write (objectOf t k) v ≡ true → ¬ F v k
@@ -39,6 +42,7 @@ pub record Fits (t : Trace) (R : List ℕ) (F : ℕ → ℕ → Type 0) : Type 0
 pub fits-same : (t : Trace) (R : List ℕ) (F G : ℕ → ℕ → Type 0) → ((j k : ℕ) → InCone t R j → InCone t R k → F j k → G j k)
     → ((j k : ℕ) → InCone t R j → InCone t R k → G j k → F j k) → Fits t R F → Fits t R G
 fits-same t R F G to of f = record {
+  awaiting = λ j k x a. to j k (brought x (precedes (inr a))) x (f .awaiting j k x a);
   observing = λ k w x r o ne. to w k (brought x (observes r o ne)) x (f .observing k w x r o ne);
   start = λ k v x r o y d l. f .start k v x r o y d (of v k y x l);
   between = λ k w v r l. to v w (r .begun) (brought (r .reader) (observes (r .reads) (r .observes) (r .written))) (f .between k w v r (of v k (r .begun) (r .reader) l));
@@ -70,8 +74,9 @@ module _ (t : Trace) (R : List ℕ) (v : (r : ℕ) → r ∈ R → Valid t r) (w
     enabled =
         enabled-by t h (s .legal) k (cone-valid t R v (s .here)) (λ n. not-both (s .past k n) (s .past k n)) (λ j p q e.
         let i : Earlier t j k = record { first = p; less = q; thread = e } in
-        let x : InCone t R j = brought (s .here) (earlier i) in
+        let x : InCone t R j = brought (s .here) (precedes (inl i)) in
         must j (turn j k x (s .here) i) x)
+        (λ j a. must j (fits .awaiting j k (s .here) a) (brought (s .here) (precedes (inr a))))
 
     -- ---- reads
 

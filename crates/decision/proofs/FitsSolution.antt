@@ -135,6 +135,7 @@ module _ (t : Trace) (R : List ℕ) (m : ℕ) (v : (r : ℕ) → r ∈ R → Val
     fits-solution = record {
       lower = record {
         rises = up;
+        awaiting = λ p q x y a. PQ x y (f .awaiting p q (y .inside) a);
         observing = λ u q x y r e. PQ x y (f .observing q u (y .inside) r e (positive x));
         overwriting = fit-overwriting;
         observed-last = λ u p q xu xp xq r e d l.
@@ -149,6 +150,7 @@ module _ (t : Trace) (R : List ℕ) (m : ℕ) (v : (r : ℕ) → r ∈ R → Val
         last-open = λ a b x y c o e l. c .unended (f .sections a b (c .outermost) o (x .inside) (y .inside) e (says-QQ x y l) .0);
       };
       upper = record {
+        awaiting = λ p q x y a. QP x y (f .awaiting q p (x .inside) a);
         observing = λ p q x y r e. QP x y (f .observing p q (x .inside) r e (positive y));
         start = λ q u y x r o d. unless-not x y (λ l. f .start q u (y .inside) r o (x .inside) d l);
         later = λ q o u y xo xu r e d l.

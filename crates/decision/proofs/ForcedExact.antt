@@ -10,14 +10,17 @@ use borrow.Author.Tests.{eqb-true, eq-eqb, leb-true, le-leb, ltb-true, lt-ltb, n
 use Rattle.model.specs.Trace.{Trace, Valid, read, write, kindOf, objectOf, does}
 use Rattle.model.specs.Lists.{_∈_, listed, allBut, own, only}
 use Rattle.model.specs.Observed.{observed}
+use Rattle.model.specs.Awaits.{Awaits}
 use Rattle.model.specs.Sections.{isOutermost}
 use Rattle.model.specs.Cone.{matching}
+use Rattle.decision.specs.Check.{isAwaited}
 use Rattle.decision.specs.Rounds.{isObserved, cone}
 use Rattle.decision.specs.Stairs.{isAlike, isWithin, isOverwriting, isReadOver, isUnended, isBound, isKeptApart, isRising, isForced}
 use Rattle.model.proofs.Tests.{clash, both, true-both, either-true, true-either, or-right, false-test, does-true, true-does}
 use Rattle.model.proofs.Lists.{any-mem, mem-any, mem-listed, listed-mem}
 use Rattle.model.proofs.SectionsExact.{outermost-acquires}
 use Rattle.decision.proofs.Solutions.{Closed, Open, Part, Reaches, Lower, Solution, Settled}
+use Rattle.decision.proofs.CheckExact.{awaited-true, true-awaited}
 use Rattle.decision.proofs.ConeParts.{section, ends, release-part, part-P, part-Q, P-part, Q-part}
 use Rattle.decision.proofs.IntervalTests.{observed-true, true-observed, Alike, alike-true, true-alike, true-within, within-write, within-section}
 
@@ -90,13 +93,17 @@ module _ (t : Trace) (R : List ℕ) (m : ℕ) (v : (r : ℕ) → r ∈ R → Val
     unfolding isBound
     has-bound p q x y e =
         ⊎-elim
+        (λ a. s .lower .awaiting p q x y (awaited-true t q p a))
+        (λ w.
+        ⊎-elim
         (λ a. let o = observed-true t q p a in s .lower .observing p q x y (o .0) (o .1))
         (λ a.
         ⊎-elim
         (has-overwriting p q x y)
         (λ b. ⊎-elim (has-read-over p q x y) (has-unended p q x y) (either-true (isReadOver t P p q) (isUnended t P Q p q) b))
         (either-true (isOverwriting t P p q) _ a))
-        (either-true (isObserved t q p) _ e)
+        (either-true (isObserved t q p) _ w))
+        (either-true (isAwaited t q p) _ e)
 
     has-kept-apart : (p q : ℕ) → moved p → other q → isKeptApart t P Q h p q ≡ true → p ≤ h q
     unfolding isKeptApart
@@ -154,29 +161,33 @@ module _ (t : Trace) (R : List ℕ) (m : ℕ) (v : (r : ℕ) → r ∈ R → Val
     unfolding isForced
     bound p q x y e = c p q (P-part t R v m p x) (Q-part t R v m q y) (rw e)
 
+    awaiting : (p q : ℕ) → moved p → other q → Awaits t q p → p ≤ g q
+    unfolding isBound
+    awaiting p q x y a = bound p q x y (rw (true-awaited t q p a))
+
     observing : (p q : ℕ) → moved p → other q → kindOf t q ≡ read → observed t q ≡ p → p ≤ g q
     unfolding isBound
-    observing p q x y r o = bound p q x y (rw (true-observed t q p r o))
+    observing p q x y r o = bound p q x y (or-right (isAwaited t q p) (rw (true-observed t q p r o)))
 
     overwriting : (p q : ℕ) → moved p → other q → kindOf t p ≡ read → ¬ moved (observed t p) → does t write (objectOf t p) q ≡ true → p < q → p ≤ g q
     unfolding isBound isOverwriting
     overwriting p q x y r out d lt =
         let n : listed (observed t p) P ≡ false = false-test (λ e. part-P t R v m _ (listed-mem (observed t p) P e)) out in
-        bound p q x y (or-right (isObserved t q p) (rw (eq-eqb (kindOf t p) read r, n, d, lt-ltb p q lt)))
+        bound p q x y (or-right (isAwaited t q p) (or-right (isObserved t q p) (rw (eq-eqb (kindOf t p) read r, n, d, lt-ltb p q lt))))
 
     observed-last : (u p q : ℕ) → moved u → moved p → other q → kindOf t p ≡ read → observed t p ≡ q → does t write (objectOf t p) u ≡ true → u < p → u ≤ g q
     unfolding isBound isReadOver
     observed-last u p q x xp y r o d lt =
-        bound u q x y (or-right (isObserved t q u) (or-right (isOverwriting t P u q) (true-either (isReadOver t P u q) _ (inl
-        (any-mem _ (P-part t R v m p xp) (true-both (true-observed t p q r o) (true-both d (lt-ltb u p lt))))))))
+        bound u q x y (or-right (isAwaited t q u) (or-right (isObserved t q u) (or-right (isOverwriting t P u q) (true-either (isReadOver t P u q) _ (inl
+        (any-mem _ (P-part t R v m p xp) (true-both (true-observed t p q r o) (true-both d (lt-ltb u p lt)))))))))
 
     opening : (a b : ℕ) → moved a → other b → Closed t R a → Open t R b → objectOf t a ≡ objectOf t b → matching t a ≤ g b
     unfolding isBound isUnended
     opening a b x y i o e =
         let n : listed (matching t b) Q ≡ false = false-test (λ d. part-Q t R v m _ (listed-mem (matching t b) Q d) .inside) (o .unended) in
         bound (matching t a) b (release-part t R v m a x (i .ended)) y
-        (or-right (isObserved t b (matching t a)) (or-right (isOverwriting t P (matching t a) b) (or-right (isReadOver t P (matching t a) b)
-        (true-both (true-both (o .outermost) (ap not n)) (any-mem _ (P-part t R v m a x) (true-both (true-alike t a b (e, inr (i .outermost, o .outermost))) (true-within t a (matching t a) (inr refl))))))))
+        (or-right (isAwaited t b (matching t a)) (or-right (isObserved t b (matching t a)) (or-right (isOverwriting t P (matching t a) b) (or-right (isReadOver t P (matching t a) b)
+        (true-both (true-both (o .outermost) (ap not n)) (any-mem _ (P-part t R v m a x) (true-both (true-alike t a b (e, inr (i .outermost, o .outermost))) (true-within t a (matching t a) (inr refl)))))))))
 
     -- the interval of u begins before k, which is in that of q
     kept-apart : (u p q k : ℕ) → moved u → moved p → other q → other k → Alike t u q → Reaches t u p ⊎ (matching t u ≡ p) → Reaches t q k ⊎ (matching t q ≡ k) → u ≤ g k → p ≤ g q
@@ -199,6 +210,7 @@ module _ (t : Trace) (R : List ℕ) (m : ℕ) (v : (r : ℕ) → r ∈ R → Val
     pub settled-lower : Lower t R m g
     settled-lower = record {
       rises = rises;
+      awaiting = awaiting;
       observing = observing;
       overwriting = overwriting;
       observed-last = observed-last;

@@ -33,6 +33,7 @@ module _ (t : Trace) (R : List ℕ) (m : ℕ) (v : (r : ℕ) → r ∈ R → Val
 
   upper-below : (g h : ℕ → ℕ) → Below t R m g h → Upper t R m h → Upper t R m g
   upper-below g h f u = record {
+    awaiting = λ p q x y i. let a = u .awaiting p q x y i in let b = f q y in omega arith;
     observing = λ p q x y r o. let a = u .observing p q x y r o in let b = f q y in omega arith;
     start = λ q i y x r o d. let a = u .start q i y x r o d in let b = f q y in omega arith;
     later = λ q o i y xo xi r e d l. let a = u .later q o i y xo xi r e d l in let b = f q y in omega arith;

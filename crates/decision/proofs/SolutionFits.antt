@@ -11,9 +11,11 @@ use Rattle.model.specs.Trace.{Trace, Valid, read, write, threadOf, kindOf, obje
 use Rattle.model.specs.Lists.{_∈_, just}
 use Rattle.model.specs.Observed.{observed}
 use Rattle.model.specs.Good.{WellFormed}
+use Rattle.model.specs.Awaits.{Awaits}
 use Rattle.model.specs.Sections.{isOutermost}
-use Rattle.model.specs.Cone.{InCone, brought, earlier, observes, matching}
+use Rattle.model.specs.Cone.{InCone, brought, precedes, observes, matching}
 use Rattle.model.proofs.Tests.{by-cases, clash, just-true}
+use Rattle.model.proofs.AwaitsExact.{awaits-before}
 use Rattle.model.proofs.ConeEvents.{cone-valid}
 use Rattle.decision.proofs.Holds.{matching-ends, sections-apart}
 use Rattle.decision.proofs.Solutions.{Closed, Open, Rival, Part, Reaches, Solution, Stands}
@@ -38,11 +40,19 @@ module _ (t : Trace) (R : List ℕ) (m : ℕ) (v : (r : ℕ) → r ∈ R → Val
       let q = matching-ends t a (z .0) in
       let th : threadOf t (matching t a) ≡ threadOf t b = q .thread ∙ just-true m _ (x .list) ∙ sym (just-true m _ (y .list)) in
       let lt = q .later in
-      o .unended (brought (y .inside) (earlier (record { first = omega arith; less = z .1; thread = th })))
+      o .unended (brought (y .inside) (precedes (inl (record { first = omega arith; less = z .1; thread = th }))))
 
   -- ---- a solution's order fits
 
   module _ (s : Solution t R m g) where
+    sol-awaiting : (j k : ℕ) → InCone t R k → Awaits t k j → F j k
+    sol-awaiting j k x a =
+        let y : InCone t R j = brought x (precedes (inr a)) in
+        ahead-by g (side j) (side k) j k
+        (λ d. awaits-before t w k j (cone-valid t R v x) a)
+        (λ c d. s .lower .awaiting j k (in-part j y c) (in-part k x d) a)
+        (λ c d. s .upper .awaiting k j (in-part k x d) (in-part j y c) a)
+
     sol-observing : (k o : ℕ) → InCone t R k → kindOf t k ≡ read → observed t k ≡ o → o ≢ 0 → F o k
     sol-observing k o x r e ne =
         let y : InCone t R o = brought x (observes r e ne) in
@@ -191,4 +201,4 @@ module _ (t : Trace) (R : List ℕ) (m : ℕ) (v : (r : ℕ) → r ∈ R → Val
       sol-sections q = by-ahead g (side a) (side b) a b q sec-same sec-moved sec-other
 
     pub solution-fits : Fits t R (Stands t m g)
-    solution-fits = record { observing = sol-observing; start = sol-start; between = sol-between; sections = sol-sections }
+    solution-fits = record { awaiting = sol-awaiting; observing = sol-observing; start = sol-start; between = sol-between; sections = sol-sections }

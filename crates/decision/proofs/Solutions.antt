@@ -10,6 +10,7 @@ use lib.Dec.{eqb}
 use Rattle.model.specs.Trace.{Trace, read, write, threadOf, kindOf, objectOf, does}
 use Rattle.model.specs.Lists.{_∈_, just, allBut, own, only, nearest}
 use Rattle.model.specs.Observed.{observed}
+use Rattle.model.specs.Awaits.{Awaits}
 use Rattle.model.specs.Sections.{isOutermost}
 use Rattle.model.specs.Cone.{InCone, matching}
 use Rattle.decision.specs.Rounds.{cone}
@@ -54,6 +55,8 @@ Reaches t w k = (k ≡ w) ⊎ ((kindOf t k ≡ read) × (observed t k ≡ w))
 pub record Lower (t : Trace) (R : List ℕ) (m : ℕ) (g : ℕ → ℕ) : Type 0 where
   -- a staircase: what stands before an event of Q stands before the later ones
   pub rises : (q r : ℕ) → Part t R m false q → Part t R m false r → q < r → g q ≤ g r
+  -- q waits for p
+  pub awaiting : (p q : ℕ) → Part t R m true p → Part t R m false q → Awaits t q p → p ≤ g q
   -- q read v
   pub observing : (v q : ℕ) → Part t R m true v → Part t R m false q → kindOf t q ≡ read → observed t q ≡ v → v ≤ g q
   -- q overwrote what p read, which was not P's own
@@ -81,6 +84,8 @@ pub record Clear (t : Trace) (R : List ℕ) (m : ℕ) (g : ℕ → ℕ) : Type 0
 
 -- upper bounds
 pub record Upper (t : Trace) (R : List ℕ) (m : ℕ) (g : ℕ → ℕ) : Type 0 where
+  -- p waits for q
+  pub awaiting : (p q : ℕ) → Part t R m true p → Part t R m false q → Awaits t p q → g q < p
   -- p read w
   pub observing : (p w : ℕ) → Part t R m true p → Part t R m false w → kindOf t p ≡ read → observed t p ≡ w → g w < p
   -- q saw the start

@@ -8,6 +8,7 @@ use Rattle.model.specs.Trace.{Trace, read, acquire, threadOf, kindOf}
 use Rattle.model.specs.Lists.{upTo, keep, anyIn}
 use Rattle.model.specs.Observed.{observed}
 use Rattle.model.specs.Cone.{matching}
+use Rattle.decision.specs.Check.{isAwaited}
 
 -- ---- the least set of numbers up to n that has all that a step gives from it
 
@@ -21,6 +22,9 @@ rounds n step (suc f) = keep (step (rounds n step f)) (upTo n)
 unfoldable pub isEarlier : Trace → ℕ → ℕ → Bool
 isEarlier t j k = ltb j k && eqb (threadOf t j) (threadOf t k)
 
+unfoldable pub isPreceding : Trace → ℕ → ℕ → Bool
+isPreceding t j k = isEarlier t j k || isAwaited t k j
+
 unfoldable pub isObserved : Trace → ℕ → ℕ → Bool
 isObserved t j k = eqb (kindOf t j) read && eqb (observed t j) k
 
@@ -32,11 +36,11 @@ isClosing t R j k = eqb (kindOf t j) acquire && (not (isExempt t R j) && eqb (ma
 
 -- event k is in the cone by rule (i)
 unfoldable pub isRooted : Trace → List ℕ → ℕ → Bool
-isRooted t R k = anyIn (λ r. isEarlier t k r) R
+isRooted t R k = anyIn (λ r. isPreceding t k r) R
 
 -- event j brings event k into the cone, by rule (ii), (iii) or (iv)
 unfoldable pub brings : Trace → List ℕ → ℕ → ℕ → Bool
-brings t R j k = isEarlier t k j || (isObserved t j k || isClosing t R j k)
+brings t R j k = isPreceding t k j || (isObserved t j k || isClosing t R j k)
 
 -- the cone's step: k is in it by rule (i), or a member of S brings it
 unfoldable pub isBrought : Trace → List ℕ → List ℕ → ℕ → Bool

@@ -12,7 +12,7 @@ use Rattle.model.specs.Lists.{nearest, anyIn, listed}
 use Rattle.model.specs.Observed.{observed}
 use Rattle.model.specs.Sections.{isOutermost}
 use Rattle.model.specs.Cone.{matching}
-use Rattle.decision.specs.Check.{sameList}
+use Rattle.decision.specs.Check.{sameList, isAwaited}
 use Rattle.decision.specs.Rounds.{isObserved}
 
 -- ---- intervals: a write with the reads that observed it; a section, from its outermost acquire to its matching release
@@ -43,9 +43,9 @@ isReadOver t P p q = anyIn (λ k. isObserved t k q && (does t write (objectOf t 
 unfoldable pub isUnended : Trace → List ℕ → List ℕ → ℕ → ℕ → Bool
 isUnended t P Q p q = (isOutermost t q && not (listed (matching t q) Q)) && anyIn (λ v. isAlike t v q && isWithin t v p) P
 
--- or q observed p
+-- or q waits for p, or observed it
 unfoldable pub isBound : Trace → List ℕ → List ℕ → ℕ → ℕ → Bool
-isBound t P Q p q = isObserved t q p || (isOverwriting t P p q || (isReadOver t P p q || isUnended t P Q p q))
+isBound t P Q p q = isAwaited t q p || (isObserved t q p || (isOverwriting t P p q || (isReadOver t P p q || isUnended t P Q p q)))
 
 -- ---- and where the staircase is g
 

@@ -172,7 +172,7 @@ pub fn kind_at(ev: &[u8], k: usize) -> u8
     ev[Event::BYTES * (k - 1) + 1]
 }
 
-// The cell or lock of event k.
+// The object of event k.
 pub fn object_at(ev: &[u8], k: usize) -> usize
     requires { ⌜ Valid (traceIn (now ev)) k ⌝ }
     ensures { λ r. ⌜ r ≡ objectOf (traceIn (now (ev .entry))) k ⌝ }

@@ -24,6 +24,7 @@ use Rattle.format.specs.declared.File.the-variants.{Refused as FileRefused, Goo
 use Rattle.judging.specs.Judged.{FileAnswer, fileRefusal, refusalOf, rowsOfFile, IsGoodFile}
 use Rattle.judging.specs.Walk.{effectOf}
 use Rattle.limits.specs.declared.Locks.{Locks}
+use Rattle.judging.specs.declared.Threads.{Threads}
 use Rattle.judging.specs.declared.Effect.{Effect}
 use Rattle.judging.specs.declared.Effect.the-variants.{Refused}
 use Rattle.judging.proofs.JudgedExact.{file-first, quiet-good-file, file-exactly}
@@ -63,7 +64,7 @@ module _ (s : List ℕ) (t : Recording) (p : Placed s t) (ev : List ℕ) (part :
   clean : layoutRefusal eventBytes s ≡ none
   clean = layout-none s eventBytes .1 (p .layout)
 
-  module _ {n k : ℕ} {locks : Locks} (j : Judging (traceIn ev) n k locks) where
+  module _ {n k : ℕ} {locks : Locks} {threads : Threads} (j : Judging (traceIn ev) n k locks threads) where
     pub events-refused : k ≤ n → (u : Effect) → u ≡ effectOf (traceIn ev) k → (r : Refusal) → u ≡ Refused r
         → FileRefused r ≡ fileOf s (refusalOf s)
     unfolding fileRefusal

@@ -41,7 +41,7 @@ module _ (t : Trace) where
   list-first [] = refl
   list-first (k ∷ l) = append-first paper (eventRows t k) (rowsOf (eventRows t) l) (eventRefusal t k) (refusalIn t l) (event-first k) (list-first l)
 
-  -- refusals 5 to 9, each exactly in its case and in this order
+  -- refusals 5 to 7, 15 to 17, 8 and 9, each exactly in its case and in this order
   pub events-exactly : (o : Option Refusal) → (refusalIn t (numbers t) ≡ o) ↔ First (traceRows t) (said paper o)
   events-exactly o = first-exactly paper paper-one (traceRows t) (refusalIn t (numbers t)) (list-first (numbers t)) o
 

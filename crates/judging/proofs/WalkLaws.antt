@@ -16,25 +16,30 @@ use borrow.Author.Tests.{eqb-true, eqb-false}
 use Rattle.model.specs.Trace.{Trace, Valid, acquire, release, kindOf, objectOf}
 use Rattle.model.specs.Lists.{upTo, before, numbers}
 use Rattle.model.specs.Good.{maxEvents, maxObject, depth, holder}
-use Rattle.model.proofs.Tests.{by-cases, false-does, not-on}
+use Rattle.model.specs.Refusals.{InLimits}
+use Rattle.bits.proofs.MaskLaws.{none-held}
+use Rattle.decision.specs.Refusals.{isBegun, isForked, isJoined}
+use Rattle.model.proofs.Tests.{by-cases, false-does, not-on, limit-small}
 use Rattle.model.proofs.Lists.{numbers-split}
 use Rattle.limits.specs.declared.Refusal.{Refusal}
 use Rattle.judging.specs.Judged.{eventRefusal, refusalIn}
-use Rattle.judging.specs.Walk.{LockTable, Ready, locking, refusedOr, effectOf}
+use Rattle.judging.specs.Walk.{LockTable, ThreadSets, Ready, locking, refusedOr, effectOf}
 use Rattle.limits.specs.Limits.{noLocks}
 use Rattle.limits.specs.declared.Locks.{Locks}
+use Rattle.judging.specs.declared.Threads.{Threads}
 use Rattle.judging.specs.declared.Effect.{Effect}
 use Rattle.judging.specs.declared.Effect.the-variants.{Nothing, Hold, Refused}
 use Rattle.judging.proofs.JudgedExact.{clean-good}
 
--- the events before k are good, and the tables are theirs
-pub record Judging (t : Trace) (n k : ℕ) (locks : Locks) : Type 0 where
+-- the events before k are good, and the tables and sets are theirs
+pub record Judging (t : Trace) (n k : ℕ) (locks : Locks) (threads : Threads) : Type 0 where
   pub size : n ≡ length t
   pub few : n ≤ maxEvents
   pub positive : 1 ≤ k
   pub high : k ≤ n + 1
   pub clean : (j : ℕ) → 1 ≤ j → j < k → eventRefusal t j ≡ none
   pub tables : LockTable t (before k) (locks .holder) (locks .depth)
+  pub sets : ThreadSets t (before k) threads
   pub holder-wide : length (locks .holder) ≡ maxObject + 1
   pub depth-wide : length (locks .depth) ≡ maxObject + 1
 
@@ -116,8 +121,8 @@ module _ (t : Trace) where
 -- ---- the ways
 
 pub judging-start : (t : Trace) (n : ℕ) (locks : Locks) → n ≡ length t → length t ≤ maxEvents
-    → locks .holder ≡ noLocks → locks .depth ≡ noLocks → Judging t n 1 locks
-unfolding noLocks
+    → locks .holder ≡ noLocks → locks .depth ≡ noLocks → Judging t n 1 locks (record { begun = 0; forked = 0; joined = 0 })
+unfolding noLocks isBegun isForked isJoined
 judging-start t n locks size few e f =
     record {
       size = size;
@@ -129,11 +134,12 @@ judging-start t n locks size few e f =
         holder-is = λ x h. rw e (getD-replicate (maxObject + 1) x 0 0 (omega arith));
         depth-is = λ x h. rw f (getD-replicate (maxObject + 1) x 0 0 (omega arith));
       };
+      sets = record { begun-is = λ c. none-held c; forked-is = λ c. none-held c; joined-is = λ c. none-held c };
       holder-wide = rw e (length-replicate {A = ℕ} (maxObject + 1) 0);
       depth-wide = rw f (length-replicate {A = ℕ} (maxObject + 1) 0);
     }
 
-module _ {t : Trace} {n k : ℕ} {locks : Locks} (p : Judging t n k locks) (h : k ≤ n) where
+module _ {t : Trace} {n k : ℕ} {locks : Locks} {threads : Threads} (p : Judging t n k locks threads) (h : k ≤ n) where
   pub judging-valid : Valid t k
   judging-valid = record { positive = p .positive; bounded = let s = p .size in omega arith }
 
@@ -143,10 +149,10 @@ module _ {t : Trace} {n k : ℕ} {locks : Locks} (p : Judging t n k locks) (h : 
   more-clean : eventRefusal t k ≡ none → (j : ℕ) → 1 ≤ j → j < k + 1 → eventRefusal t j ≡ none
   more-clean e j a b = by-cases (eqb j k) (λ q. rw (eqb-true j k q) e) (λ q. let ne = eqb-false j k q in p .clean j a (omega arith))
 
-  -- event k is good, and the new tables are those after it
+  -- event k is good, and the new tables and sets are those after it
   next : eventRefusal t k ≡ none → (l : Locks) → length (l .holder) ≡ maxObject + 1 → length (l .depth) ≡ maxObject + 1
-      → LockTable t (k ∷ before k) (l .holder) (l .depth) → Judging t n (k + 1) l
-  next e l v w f =
+      → LockTable t (k ∷ before k) (l .holder) (l .depth) → (s : Threads) → ThreadSets t (k ∷ before k) s → Judging t n (k + 1) l s
+  next e l v w f s g =
       record {
         size = p .size;
         few = p .few;
@@ -154,31 +160,39 @@ module _ {t : Trace} {n k : ℕ} {locks : Locks} (p : Judging t n k locks) (h : 
         high = omega arith;
         clean = more-clean e;
         tables = rw (next-before k (p .positive)) f;
+        sets = rw (next-before k (p .positive)) g;
         holder-wide = v;
         depth-wide = w;
       }
 
   module _ (u : Effect) (eu : u ≡ effectOf t k) where
-    pub judging-pass : u ≡ Nothing → (l : Locks) → l ≡ locks → Judging t n (k + 1) l
-    judging-pass f l el =
+    pub judging-pass : u ≡ Nothing → (l : Locks) → l ≡ locks → (s : Threads) → ThreadSets t (k ∷ before k) s → Judging t n (k + 1) l s
+    judging-pass f l el s g =
         let w = passed t k (sym eu ∙ f) in
         rw el
         (next (w .0) locks (p .holder-wide) (p .depth-wide) (record {
           holder-is = λ x b. p .tables .holder-is x b ∙ sym (after-pass t k (w .1) (before k) x .0);
           depth-is = λ x b. p .tables .depth-is x b ∙ sym (after-pass t k (w .1) (before k) x .1);
-        }))
+        }) s g)
+
+    -- an event that is not refused is within its limits
+    pub pass-limits : u ≡ Nothing → InLimits t k
+    pass-limits f = clean-good t k (passed t k (sym eu ∙ f) .0) .limits
+
+    pub hold-limits : {v d : ℕ} → u ≡ Hold v d → InLimits t k
+    hold-limits {v} {d} f = clean-good t k (held t k v d (sym eu ∙ f) .0) .limits
 
     module _ (v d : ℕ) (f : u ≡ Hold v d) (o : ℕ) (eo : o ≡ objectOf t k) where
       pub judging-object : o < maxObject + 1
-      judging-object = let w = held t k v d (sym eu ∙ f) in let b = clean-good t k (w .0) .limits .object in omega arith
+      judging-object = let b = hold-limits f .object in let m = limit-small (kindOf t k) in omega arith
 
       pub judging-offset : Fits w64 (o * 2)
       judging-offset = let b = judging-object in record { fits = omega arith }
 
-      pub judging-hold : (l : Locks) → l ≡ record { holder = set (locks .holder) o v; depth = set (locks .depth) o d } → Judging t n (k + 1) l
-      judging-hold l el =
+      pub judging-hold : (l : Locks) → l ≡ record { holder = set (locks .holder) o v; depth = set (locks .depth) o d } → (s : Threads) → ThreadSets t (k ∷ before k) s → Judging t n (k + 1) l s
+      judging-hold l el s g =
           let w = held t k v d (sym eu ∙ f) in
-          let b = clean-good t k (w .0) .limits .object in
+          let b = judging-object in
           let y = p .holder-wide in
           let z = p .depth-wide in
           let c = after-hold t k v d (w .1) in
@@ -194,12 +208,12 @@ module _ {t : Trace} {n k : ℕ} {locks : Locks} (p : Judging t n k locks) (h : 
             depth-is =
                 stored (λ j. depth t j (before k)) (λ j. depth t j (k ∷ before k)) (locks .depth) x d (omega arith)
                 (p .tables .depth-is) (c .1) (λ j ne. after-other t k (before k) j ne .1);
-          }))
+          }) s g)
 
     pub judging-stop : (r : Refusal) → u ≡ Refused r → refusalIn t (numbers t) ≡ some r
     unfolding effectOf
     judging-stop r f = refused-first t k judging-valid (p .clean) r (stopped t k (eventRefusal t k) u r (sym eu) f)
 
-pub judging-end : {t : Trace} {n k : ℕ} {locks : Locks} → Judging t n k locks → n < k → refusalIn t (numbers t) ≡ none
+pub judging-end : {t : Trace} {n k : ℕ} {locks : Locks} {threads : Threads} → Judging t n k locks threads → n < k → refusalIn t (numbers t) ≡ none
 unfolding refusalIn
 judging-end {t} p h = clean-skip t (length t) [] (λ j a b. let s = p .size in p .clean j a (omega arith))

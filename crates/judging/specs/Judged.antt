@@ -1,4 +1,4 @@
--- The first refusal of a file: 1 to 4 and 13 by its layout, then 5 to 9 by its events.
+-- The first refusal of a file: 1 to 4 and 13 by its layout, then 5 to 7, 15 to 17, 8 and 9 by its events.
 use Prim.Native.Nat.{ℕ}
 use mathlib.Core.Option.{Option, none, some}
 use mathlib.Core.List.{List, [], _∷_, _++_}

@@ -5,6 +5,8 @@ use mathlib.Core.Logic.{_↔_}
 use mathlib.Core.Bool.{true, false, not, _&&_}
 use lib.Dec.{leb}
 use borrow.Author.Tests.{leb-true, leb-false, lt-leb, le-leb, not-true}
+use Rattle.model.specs.Trace.{fork}
+use Rattle.model.specs.Good.{maxThread, maxObject, objectLimit}
 use Rattle.limits.specs.Limits.{areaBytes, isAreaSize}
 use Rattle.limits.specs.Refusals.{eventOf}
 use Rattle.limits.specs.declared.Refusal.{Refusal}
@@ -17,6 +19,17 @@ module _ (low high n : ℕ) where
 
   pub range-rest : low ≤ n → leb n high ≡ (leb low n && leb n high)
   range-rest h = simp (le-leb _ _ h)
+
+-- the limit of an object, by its kind
+module _ (kind : ℕ) where
+  pub limit-place : kind < fork → maxObject ≡ objectLimit kind
+  limit-place h = rw (lt-leb fork kind h)
+
+  pub limit-thread : fork ≤ kind → maxThread ≡ objectLimit kind
+  limit-thread h = rw (le-leb fork kind h)
+
+  pub limit-test : {limit : ℕ} → limit ≡ objectLimit kind → (object : ℕ) → leb object limit ≡ leb object (objectLimit kind)
+  limit-test e object = ap (leb object) e
 
 -- the test of a work area
 module _ (n : ℕ) where

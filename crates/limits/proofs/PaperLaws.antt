@@ -11,7 +11,7 @@ use Rattle.model.specs.Refusals.{eventRows}
 use Rattle.model.proofs.RowsExact.{none-quiet, quiet-none, first-exactly}
 use Rattle.limits.specs.Refusals.{numberOf, paper, eventRefusals, RefusedBy, Asked, refuses, answers, settled}
 use Rattle.limits.specs.declared.Refusal.{Refusal}
-use Rattle.limits.specs.declared.Refusal.the-variants.{FileSize, Mark, EventCount, Distance, Kind, Thread, Object, LockHeld, NotHolder, ListShort, NotConflicting, AreaShort, Preamble}
+use Rattle.limits.specs.declared.Refusal.the-variants.{FileSize, Mark, EventCount, Distance, Kind, Thread, Object, SelfOrSecond, AlreadyBegun, AlreadyJoined, LockHeld, NotHolder, ListShort, NotConflicting, AreaShort, Preamble}
 
 pub event-numbers : (t : Trace) (k : ℕ) → map paper (eventRefusals k) ≡ map (λ (r : Row). r .answer) (eventRows t k)
 event-numbers t k = refl
@@ -32,6 +32,9 @@ tells Distance = refl
 tells (Kind k) = refl
 tells (Thread k) = refl
 tells (Object k) = refl
+tells (SelfOrSecond k) = refl
+tells (AlreadyBegun k) = refl
+tells (AlreadyJoined k) = refl
 tells (LockHeld k) = refl
 tells (NotHolder k) = refl
 tells ListShort = refl

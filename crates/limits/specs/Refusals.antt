@@ -4,7 +4,7 @@ use mathlib.Core.Option.{Option, none, some}
 use mathlib.Core.List.{List, [], _∷_}
 use Rattle.model.specs.Rows.{About, nothing, event, Answer, Row, First, Quiet}
 use Rattle.limits.specs.declared.Refusal.{Refusal}
-use Rattle.limits.specs.declared.Refusal.the-variants.{FileSize, Mark, EventCount, Distance, Kind, Thread, Object, LockHeld, NotHolder, ListShort, NotConflicting, AreaShort, Preamble}
+use Rattle.limits.specs.declared.Refusal.the-variants.{FileSize, Mark, EventCount, Distance, Kind, Thread, Object, SelfOrSecond, AlreadyBegun, AlreadyJoined, LockHeld, NotHolder, ListShort, NotConflicting, AreaShort, Preamble}
 use Rattle.limits.specs.declared.EventNumber.{EventNumber}
 use Rattle.limits.specs.declared.EventNumber.the-variants.{Absent, At}
 
@@ -23,6 +23,9 @@ numberOf ListShort = 10
 numberOf NotConflicting = 11
 numberOf AreaShort = 12
 numberOf Preamble = 13
+numberOf (SelfOrSecond k) = 15
+numberOf (AlreadyBegun k) = 16
+numberOf (AlreadyJoined k) = 17
 
 -- the event number that goes with it
 abbrev pub eventOf : Refusal → EventNumber
@@ -33,6 +36,9 @@ eventOf Distance = Absent
 eventOf (Kind k) = At k
 eventOf (Thread k) = At k
 eventOf (Object k) = At k
+eventOf (SelfOrSecond k) = At k
+eventOf (AlreadyBegun k) = At k
+eventOf (AlreadyJoined k) = At k
 eventOf (LockHeld k) = At k
 eventOf (NotHolder k) = At k
 eventOf ListShort = Absent
@@ -50,7 +56,7 @@ paper r = record { number = numberOf r; about = aboutOf (eventOf r) }
 
 -- the refusals of event k, in the order of its rows
 abbrev pub eventRefusals : ℕ → List Refusal
-eventRefusals k = Kind k ∷ Thread k ∷ Object k ∷ LockHeld k ∷ NotHolder k ∷ []
+eventRefusals k = Kind k ∷ Thread k ∷ Object k ∷ SelfOrSecond k ∷ AlreadyBegun k ∷ AlreadyJoined k ∷ LockHeld k ∷ NotHolder k ∷ []
 
 -- ---- what is asked: refused, or answered
 

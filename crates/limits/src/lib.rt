@@ -1,7 +1,7 @@
 // What is limited, each kind of thing with its limits, and the refusals.
 ghost use mathlib.Core.Path.{_≡_};
 ghost use lib.Dec.{leb};
-ghost use Rattle.model.specs.Good.{maxEvents, maxThread, maxObject, isKnownKind};
+ghost use Rattle.model.specs.Good.{maxEvents, maxThread, objectLimit, isKnownKind};
 ghost use Rattle.limits.specs.Limits.{isFileSize, isAreaSize, noLocks};
 ghost use Rattle.limits.specs.Refusals.{numberOf, eventOf};
 
@@ -24,7 +24,7 @@ impl Thread {
     }
 }
 
-// An event: its thread, its kind, and its object: the cell of a read or write, or the lock of an acquire or release.
+// An event: its thread, its kind, and its object: the cell of a read or write, the lock of an acquire or release, or the thread that is forked or joined.
 pub struct Event {
     pub thread: Thread,
     pub kind: u8,
@@ -50,19 +50,33 @@ impl Event {
 
     pub const RELEASE: u8 = 4;
 
+    pub const FORK: u8 = 5;
+
+    pub const JOIN: u8 = 6;
+
     pub fn kind_known(self) -> bool
         ensures { λ r. ⌜ r ≡ isKnownKind (self .kind) ⌝ }
     {
         if self.kind < Event::READ {
             return false;
         }
-        self.kind <= Event::RELEASE
+        self.kind <= Event::JOIN
+    }
+
+    // The highest number of an object of a kind of event: that of a fork or join is a thread.
+    pub fn object_limit(kind: u8) -> usize
+        ensures { λ r. ⌜ r ≡ objectLimit kind ⌝ }
+    {
+        if kind < Event::FORK {
+            return Event::MAX_OBJECT;
+        }
+        Thread::MAX as usize
     }
 
     pub fn object_in_limit(self) -> bool
-        ensures { λ r. ⌜ r ≡ leb (self .object) maxObject ⌝ }
+        ensures { λ r. ⌜ r ≡ leb (self .object) (objectLimit (self .kind)) ⌝ }
     {
-        self.object <= Event::MAX_OBJECT
+        self.object <= Event::object_limit(self.kind)
     }
 }
 
@@ -144,6 +158,12 @@ pub enum Refusal {
     Kind(u16),
     Thread(u16),
     Object(u16),
+    // a fork or join of its own thread, or a second fork of one thread
+    SelfOrSecond(u16),
+    // a fork of a thread that has an event
+    AlreadyBegun(u16),
+    // an event of a joined thread
+    AlreadyJoined(u16),
     // by another thread
     LockHeld(u16),
     NotHolder(u16),
@@ -179,6 +199,9 @@ impl Refusal {
             Refusal::NotConflicting => 11,
             Refusal::AreaShort => 12,
             Refusal::Preamble => 13,
+            Refusal::SelfOrSecond(_) => 15,
+            Refusal::AlreadyBegun(_) => 16,
+            Refusal::AlreadyJoined(_) => 17,
         }
     }
 
@@ -190,6 +213,9 @@ impl Refusal {
             Refusal::Kind(k) => EventNumber::At(k),
             Refusal::Thread(k) => EventNumber::At(k),
             Refusal::Object(k) => EventNumber::At(k),
+            Refusal::SelfOrSecond(k) => EventNumber::At(k),
+            Refusal::AlreadyBegun(k) => EventNumber::At(k),
+            Refusal::AlreadyJoined(k) => EventNumber::At(k),
             Refusal::LockHeld(k) => EventNumber::At(k),
             Refusal::NotHolder(k) => EventNumber::At(k),
             Refusal::FileSize => EventNumber::Absent,

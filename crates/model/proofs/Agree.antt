@@ -11,10 +11,12 @@ use Rattle.model.specs.Trace.{Trace, Event, Valid, write, acquire, relea
 use Rattle.model.specs.Lists.{_∈_, before, consIf, only, just}
 use Rattle.model.specs.Observed.{lastWrite, observed}
 use Rattle.model.specs.Good.{depth, holder, Free}
+use Rattle.model.specs.Awaits.{Awaits, forked, joined}
 use Rattle.model.specs.Reordering.{Next, Enabled, EnabledAfter, Step, Correct}
 use Rattle.model.specs.Race.{Conflicting}
 use Rattle.model.specs.Extension.{Extension}
 use Rattle.model.proofs.Lists.{mem-before}
+use Rattle.model.proofs.AwaitsExact.{awaits-valid, awaits-before}
 use Rattle.model.proofs.Histories.{Legal, to-legal, of-legal, legal-valid}
 
 -- the traces agree on the events up to n
@@ -23,6 +25,10 @@ Agree u v n = (k : ℕ) → k ≤ n → at u k ≡ at v k
 
 abbrev pub Within : ℕ → List ℕ → Type 0
 Within n h = (k : ℕ) → k ∈ h → k ≤ n
+
+-- what an event of v up to n waits for is an event of u up to n
+abbrev pub Closed : Trace → Trace → ℕ → Type 0
+Closed u v n = (k j : ℕ) → 1 ≤ k → k ≤ n → Awaits v k j → (j ≤ n) × Valid u j
 
 within-before : (n k : ℕ) → k ≤ n → Within n (before k)
 within-before n k p j m = let z = mem-before k j m in omega arith
@@ -81,26 +87,33 @@ module _ (u v : Trace) (n : ℕ) (same : Agree u v n) where
         sym (only-agree (just c) h w) ∙ (rw e at (st .turn)) ∙ only-agree (just c) (before k) (within-before n k p);
   }
 
-  enabled-agree : (h : List ℕ) (k : ℕ) → Within n h → k ≤ n → Valid v k → Enabled u h k → Enabled v h k
-  enabled-agree h k w p q e = record { next = next-agree h k w p q (e .next) }
+  pub awaits-agree : Closed u v n → (k j : ℕ) → 1 ≤ k → k ≤ n → Awaits v k j → Awaits u k j
+  awaits-agree c k j q p a = go (c k j q p a) a
+    where
+      go : (j ≤ n) × Valid u j → Awaits v k j → Awaits u k j
+      go z (forked f o) = forked (same-kind j (z .0) ∙ f) (same-object j (z .0) ∙ o ∙ sym (same-thread k p))
+      go z (joined f x o) = joined (same-kind k p ∙ f) (z .1) (same-thread j (z .0) ∙ o ∙ sym (same-object k p))
+
+  enabled-agree : Closed u v n → (h : List ℕ) (k : ℕ) → Within n h → k ≤ n → Valid v k → Enabled u h k → Enabled v h k
+  enabled-agree c h k w p q e = record { next = next-agree h k w p q (e .next); ready = λ j a. e .ready j (awaits-agree c k j (q .positive) p a) }
 
   free-agree : (h : List ℕ) (k : ℕ) → Within n h → k ≤ n → Free u h k → Free v h k
   free-agree h k w p f =
       let e : holder u (objectOf u k) h ≡ holder v (objectOf v k) h = ap (λ (x : ℕ). holder u x h) (same-object k p) ∙ holder-agree (objectOf v k) h w in
       ⊎-elim (λ z. inl (sym e ∙ z)) (λ z. inr (sym e ∙ z ∙ ap suc (same-thread k p))) f
 
-  step-agree : (h : List ℕ) (k : ℕ) → Within n h → k ≤ n → Valid v k → Step u h k → Step v h k
-  step-agree h k w p q st = record {
-    enabled = enabled-agree h k w p q (st .enabled);
+  step-agree : Closed u v n → (h : List ℕ) (k : ℕ) → Within n h → k ≤ n → Valid v k → Step u h k → Step v h k
+  step-agree c h k w p q st = record {
+    enabled = enabled-agree c h k w p q (st .enabled);
     sees = λ r. sym (lastWrite-agree (objectOf v k) h w) ∙ ap (λ (x : ℕ). lastWrite u x h) (sym (same-object k p)) ∙ st .sees (same-kind k p ∙ r) ∙ observed-agree k p;
     free = λ r. free-agree h k w p (st .free (same-kind k p ∙ r));
   }
 
-  pub legal-agree : (h : List ℕ) → Within n h → ((k : ℕ) → k ∈ h → Valid v k) → Legal u h → Legal v h
-  legal-agree [] w q l = tt
-  legal-agree (k ∷ h) w q l =
+  pub legal-agree : Closed u v n → (h : List ℕ) → Within n h → ((k : ℕ) → k ∈ h → Valid v k) → Legal u h → Legal v h
+  legal-agree c [] w q l = tt
+  legal-agree c (k ∷ h) w q l =
       let w′ : Within n h = λ j m. w j (List·Memᴰ·tail m) in
-      (step-agree h k w′ (w k (List·Memᴰ·head refl)) (q k (List·Memᴰ·head refl)) (l .0), legal-agree h w′ (λ j m. q j (List·Memᴰ·tail m)) (l .1))
+      (step-agree c h k w′ (w k (List·Memᴰ·head refl)) (q k (List·Memᴰ·head refl)) (l .0), legal-agree c h w′ (λ j m. q j (List·Memᴰ·tail m)) (l .1))
 
 -- ---- a trace and an extension of it
 
@@ -120,17 +133,27 @@ module _ (t t′ : Trace) (long : Extension t t′) where
       let z : length t ≤ length t′ = rw (long .same) (let y = length-append t (long .added) in omega arith) in
       record { positive = v .positive; bounded = let y = v .bounded in omega arith }
 
+  -- no fork of an event's thread is added, and no event of a joined thread
+  pub extension-closed : Closed t t′ (length t)
+  extension-closed k j v p a =
+      let y = awaits-valid t′ k j a .positive in
+      let z = awaits-before t′ (long .good .well-formed) k j (extended-valid k (record { positive = v; bounded = p })) a in
+      (omega arith, record { positive = y; bounded = omega arith })
+
+  pub trace-closed : Closed t′ t (length t)
+  trace-closed k j v p a = let y = awaits-valid t k j a in (y .bounded, extended-valid j y)
+
   -- a correct reordering stays one, and brings the same events next
   pub extended-correct : (ρ : List ℕ) → Correct t ρ → Correct t′ ρ
   extended-correct ρ c =
       let l = to-legal t ρ c in
       let v : (k : ℕ) → k ∈ reverse ρ → Valid t k = legal-valid t (reverse ρ) l in
       rw (reverse-reverse ρ) at (of-legal t′ (reverse ρ)
-      (legal-agree t t′ (length t) extension-agree (reverse ρ) (λ k m. v k m .bounded) (λ k m. extended-valid k (v k m)) l))
+      (legal-agree t t′ (length t) extension-agree extension-closed (reverse ρ) (λ k m. v k m .bounded) (λ k m. extended-valid k (v k m)) l))
 
   pub extended-next : (ρ : List ℕ) → Correct t ρ → (k : ℕ) → EnabledAfter t ρ k → EnabledAfter t′ ρ k
   extended-next ρ c k e =
-      enabled-agree t t′ (length t) extension-agree (reverse ρ) k
+      enabled-agree t t′ (length t) extension-agree extension-closed (reverse ρ) k
       (λ j m. legal-valid t (reverse ρ) (to-legal t ρ c) j m .bounded) (e .next .valid .bounded) (extended-valid k (e .next .valid)) e
 
   -- a conflicting pair stays one

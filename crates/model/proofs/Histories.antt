@@ -11,7 +11,7 @@ use borrow.Author.Tests.{leb-true, leb-false}
 use Rattle.model.specs.Trace.{Trace, Valid, read, write, threadOf, kindOf, objectOf, does}
 use Rattle.model.specs.Lists.{_∈_, upTo, before, keep, own, just}
 use Rattle.model.specs.Observed.{lastWrite, observed}
-use Rattle.model.specs.Reordering.{Next, Enabled, Sees, Step, Correct, CorrectFrom}
+use Rattle.model.specs.Reordering.{Next, Ready, Enabled, Sees, Step, Correct, CorrectFrom}
 use Rattle.model.specs.Race.{Increasing}
 use Rattle.model.proofs.Tests.{by-cases, in-cons, just-true, true-just, false-just}
 use Rattle.model.proofs.Lists.{nearest-mem, nearest-kept, keep-reverse, mem-own, own-mem, upTo-mem, mem-upTo, mem-before, before-mem, increasing-reverse}
@@ -96,8 +96,8 @@ module _ (t : Trace) where
             let z : ⊥ = omega arith in z);
       }
 
-  pub enabled-by : (h : List ℕ) → Legal t h → (a : ℕ) → Valid t a → ¬ (a ∈ h) → ((k : ℕ) → 1 ≤ k → k < a → threadOf t k ≡ threadOf t a → k ∈ h) → Enabled t h a
-  enabled-by h l a v out all = record { next = next-by h l a v out all }
+  pub enabled-by : (h : List ℕ) → Legal t h → (a : ℕ) → Valid t a → ¬ (a ∈ h) → ((k : ℕ) → 1 ≤ k → k < a → threadOf t k ≡ threadOf t a → k ∈ h) → Ready t h a → Enabled t h a
+  enabled-by h l a v out all ready = record { next = next-by h l a v out all; ready = ready }
 
   -- the members of a next event's thread are the events before it
   pub enabled-mem : (h : List ℕ) (a : ℕ) → Next t h a → (k : ℕ) → k ∈ h → threadOf t k ≡ threadOf t a → (1 ≤ k) × (k < a)
@@ -111,6 +111,12 @@ module _ (t : Trace) where
   -- so it is not in the history
   pub enabled-out : (h : List ℕ) (a : ℕ) → Next t h a → ¬ (a ∈ h)
   enabled-out h a e m = let z = enabled-mem h a e a m refl in omega arith
+
+  -- a legal history has what its events wait for
+  pub legal-ready : (h : List ℕ) → Legal t h → (k : ℕ) → k ∈ h → Ready t h k
+  legal-ready [] l k m j a = absurd (List·Memᴰ·not-nil m)
+  legal-ready (i ∷ h) l k m j a =
+      List·Memᴰ·tail (in-cons m (λ e. l .0 .enabled .ready j (rw e at a)) (λ n. legal-ready h (l .1) k n j a))
 
   -- ---- reads
 

@@ -2,6 +2,8 @@
 pub mod Tests
 pub mod Lists
 pub mod Passed
+-- what an event waits for
+pub mod AwaitsExact
 pub mod Histories
 pub mod Locks
 pub mod SectionsExact

@@ -13,9 +13,10 @@ use Rattle.model.specs.Trace.{Trace, Valid, read, acquire, release, thre
 use Rattle.model.specs.Lists.{_∈_, upTo, before, only, just}
 use Rattle.model.specs.Observed.{observed}
 use Rattle.model.specs.Good.{depth, holder, Free, Held, WellFormed}
+use Rattle.model.specs.Awaits.{Awaits}
 use Rattle.model.specs.Reordering.{Next, Sees}
 use Rattle.model.proofs.Tests.{by-cases, does-true, true-just}
-use Rattle.model.proofs.Lists.{own-only}
+use Rattle.model.proofs.Lists.{only-mem, own-only}
 use Rattle.model.proofs.Histories.{Legal, lastWrite-kept}
 
 -- each acquire in the history takes a free lock, each release is by the holder
@@ -168,20 +169,24 @@ module _ (t : Trace) (w : WellFormed t) where
   locked [] l = tt
   locked (k ∷ h) l = let ih = locked h (l .1) in (l .0 .free, held-next h ih k (l .0 .enabled .next), ih)
 
--- what is left when only the events of a set of threads are kept that wrote all they read
+-- what is left when only the events of a set of threads are kept that wrote all they read and have all they wait for
 module _ (t : Trace) (s : ℕ → Bool) where
   pub legal-only : (h : List ℕ) → Legal t h → Locked t h
       → ((k : ℕ) → k ∈ h → s (threadOf t k) ≡ true → kindOf t k ≡ read → (observed t k ≡ 0) ⊎ (s (threadOf t (observed t k)) ≡ true))
+      → ((k : ℕ) → k ∈ h → s (threadOf t k) ≡ true → (j : ℕ) → Awaits t k j → s (threadOf t j) ≡ true)
       → Legal t (only t s h)
   unfolding Locked
-  legal-only [] l d f = tt
-  legal-only (k ∷ h) l d f =
-      let ih : Legal t (only t s h) = legal-only h (l .1) (d .2) (λ j m. f j (List·Memᴰ·tail m)) in
+  legal-only [] l d f g = tt
+  legal-only (k ∷ h) l d f g =
+      let ih : Legal t (only t s h) = legal-only h (l .1) (d .2) (λ j m. f j (List·Memᴰ·tail m)) (λ j m. g j (List·Memᴰ·tail m)) in
       let st = l .0 in
       by-cases (s (threadOf t k))
       (λ e. rw e (
         record {
-          enabled = let n = st .enabled .next in record { next = record { valid = n .valid; turn = own-only t s (threadOf t k) e h ∙ n .turn } };
+          enabled = let n = st .enabled .next in record {
+            next = record { valid = n .valid; turn = own-only t s (threadOf t k) e h ∙ n .turn };
+            ready = λ j a. only-mem t s (st .enabled .ready j a) (g k (List·Memᴰ·head refl) e j a);
+          };
           sees = λ r. sees-only (st .sees r) (f k (List·Memᴰ·head refl) e r);
           free = λ r. free-only t s h (d .2) k (st .free r);
         },

@@ -85,7 +85,8 @@ candidate-brings t R m ρ v c = record {
   enabled = λ r x.
       enabled-by t (reverse ρ) (to-legal t ρ (c .correct)) r (v r x)
       (λ n. c .roots-out r x (c .members r .0 (mem-reverse r ρ n)))
-      (λ k p q e. reverse-mem (c .members k .1 (root x (record { first = p; less = q; thread = e }))));
+      (λ k p q e. reverse-mem (c .members k .1 (root x (inl (record { first = p; less = q; thread = e })))))
+      (λ j a. reverse-mem (c .members j .1 (root x (inr a))));
 }
 
 pub witness-brings-both : (t : Trace) (a b : ℕ) (ρ : List ℕ) → Conflicting t a b → Witness t a b ρ → BringsBoth t ρ a b

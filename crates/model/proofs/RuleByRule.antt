@@ -2,7 +2,7 @@
 use Prim.Native.Nat.{ℕ, zero, suc, _≤_}
 use native.Mathlib.Omega.{arith}
 use mathlib.Core.Path.{_≡_, refl, sym, _∙_, ap}
-use mathlib.Core.Logic.{_↔_}
+use mathlib.Core.Logic.{inl, inr, _↔_}
 use mathlib.Core.Bool.{Bool}
 use mathlib.Core.List.{List, [], _∷_, _++_, reverse, reverseAux, reverse-reverse, reverse-append, append-assoc, List·Memᴰ·head, Memᴰ·append-left, Memᴰ·append-right}
 use lib.ListN.{length}
@@ -12,10 +12,12 @@ use Rattle.model.specs.Trace.{Trace, Valid, read, write, threadOf, kindO
 use Rattle.model.specs.Lists.{_∈_, upTo, before, numbers, own, just}
 use Rattle.model.specs.Observed.{observed}
 use Rattle.model.specs.Good.{WellFormed}
+use Rattle.model.specs.Awaits.{Awaits, forked, joined}
 use Rattle.model.specs.Reordering.{StandsAfter, CorrectReordering, EnabledAfter, Sees, Step, Correct, CorrectFrom}
-use Rattle.model.specs.Cone.{Earlier}
+use Rattle.model.specs.Cone.{Precedes}
 use Rattle.model.proofs.Tests.{by-cases, true-just}
-use Rattle.model.proofs.Lists.{keep-reverse, keep-append, behind, nearest-none, none-nearest, mem-reverse, reverse-mem, reverse-split}
+use Rattle.model.proofs.Lists.{keep-reverse, keep-append, behind, upTo-mem, nearest-none, none-nearest, mem-reverse, reverse-mem, reverse-split}
+use Rattle.model.proofs.AwaitsExact.{awaits-valid, awaits-before}
 use Rattle.model.proofs.Histories.{Legal, to-legal, of-legal, legal-valid, own-beginning, enabled-by, mem-enabled, enabled-out}
 
 module _ (t : Trace) where
@@ -60,6 +62,8 @@ module _ (t : Trace) where
       start-reads = λ σ k s r z j m.
           none-nearest (λ i. does t write (objectOf t k) i) (reverse σ) (λ i n. valid-in i (rw (s .1) (Memᴰ·append-left (k ∷ s .0) (mem-reverse i σ n))) .positive)
           (at-place σ k s .sees r ∙ z) j (reverse-mem m);
+      forks = λ σ k s j f o. mem-reverse j σ (at-place σ k s .enabled .ready j (forked f o));
+      joins = λ σ k s f j v o. mem-reverse j σ (at-place σ k s .enabled .ready j (joined f v o));
     }
 
   -- ---- and back
@@ -85,13 +89,20 @@ module _ (t : Trace) where
         nearest-none (λ i. does t write (objectOf t k) i) (reverse σ) (λ j m. w .start-reads σ k s r z j (mem-reverse j σ m)) ∙ sym z)
         (λ e. w .reads σ k s r (eqb-false (observed t k) 0 e))
 
+    ready-at : (σ : List ℕ) (k : ℕ) → StandsAfter ρ σ k → (j : ℕ) → Awaits t k j → j ∈ reverse σ
+    ready-at σ k s j (forked f o) = reverse-mem (w .forks σ k s j f o)
+    ready-at σ k s j (joined f v o) = reverse-mem (w .joins σ k s f j v o)
+
     words-from : (τ σ : List ℕ) → ρ ≡ σ ++ τ → CorrectFrom t (reverse σ) τ
     words-from [] σ e = tt
     words-from (k ∷ τ) σ e =
         let s : StandsAfter ρ σ k = (τ, e) in
         let next = words-from τ (σ ++ (k ∷ [])) (e ∙ sym (append-assoc σ (k ∷ []) τ)) in (
           record {
-            enabled = record { next = record { valid = w .events k (rw e (Memᴰ·append-right σ (List·Memᴰ·head refl))); turn = next-at σ k s } };
+            enabled = record {
+              next = record { valid = w .events k (rw e (Memᴰ·append-right σ (List·Memᴰ·head refl))); turn = next-at σ k s };
+              ready = ready-at σ k s;
+            };
             sees = sees-at σ k s;
             free = w .locks σ k s;
           },
@@ -102,18 +113,23 @@ module _ (t : Trace) where
   pub correct-rule-by-rule : (ρ : List ℕ) → Correct t ρ ↔ CorrectReordering t ρ
   correct-rule-by-rule ρ = (correct-words ρ, (λ w. words-from ρ w ρ [] refl))
 
-  -- after a correct reordering an event is enabled exactly when it is not in the list and all earlier ones of its thread are
-  pub enabled-in-words : (ρ : List ℕ) → Correct t ρ → (k : ℕ) → EnabledAfter t ρ k ↔ (Valid t k × ¬ (k ∈ ρ) × ((j : ℕ) → Earlier t j k → j ∈ ρ))
+  -- after a correct reordering an event is enabled exactly when it is not in the list and all that must stand before it are: the earlier ones of its thread, and the fork of that
+  pub enabled-in-words : (ρ : List ℕ) → Correct t ρ → (k : ℕ) → EnabledAfter t ρ k ↔ (Valid t k × ¬ (k ∈ ρ) × ((j : ℕ) → Precedes t j k → j ∈ ρ))
   enabled-in-words ρ c k = (
     (λ e. (
       e .next .valid,
       (λ m. enabled-out t (reverse ρ) k (e .next) (reverse-mem m)),
-      (λ j x. mem-reverse j ρ (mem-enabled t (reverse ρ) k (e .next) j (x .first) (x .less) (x .thread))),
+      precedes-in e,
     )),
     (λ x.
         enabled-by t (reverse ρ) (to-legal t ρ c) k (x .0) (λ m. x .1 (mem-reverse k ρ m))
-        (λ j p q r. reverse-mem (x .2 j (record { first = p; less = q; thread = r })))),
+        (λ j p q r. reverse-mem (x .2 j (inl (record { first = p; less = q; thread = r }))))
+        (λ j a. reverse-mem (x .2 j (inr a)))),
   )
+    where
+      precedes-in : EnabledAfter t ρ k → (j : ℕ) → Precedes t j k → j ∈ ρ
+      precedes-in e j (inl x) = mem-reverse j ρ (mem-enabled t (reverse ρ) k (e .next) j (x .first) (x .less) (x .thread))
+      precedes-in e j (inr a) = mem-reverse j ρ (e .ready j a)
 
   -- the trace is a correct reordering of itself
   pub trace-correct : WellFormed t → Correct t (numbers t)
@@ -122,5 +138,14 @@ module _ (t : Trace) where
       go : (m : ℕ) → m ≤ length t → Legal t (upTo m)
       go zero p = tt
       go (suc m) p =
-          let v : Valid t (suc m) = record { positive = omega arith; bounded = p } in
-          (record { enabled = record { next = record { valid = v; turn = refl } }; sees = λ r. unfold observed in refl; free = w .taken-free (suc m) v }, go m (omega arith))
+          let v : Valid t (suc m) = record { positive = omega arith; bounded = p } in (
+            record {
+              enabled = record {
+                next = record { valid = v; turn = refl };
+                ready = λ j a. let z = awaits-before t w (suc m) j v a in upTo-mem m j (awaits-valid t (suc m) j a .positive) (omega arith);
+              };
+              sees = λ r. unfold observed in refl;
+              free = w .taken-free (suc m) v;
+            },
+            go m (omega arith),
+          )

@@ -9,21 +9,22 @@ use lib.ListN.{length}
 use Rattle.model.specs.Trace.{Trace, Valid, threadOf}
 use Rattle.model.specs.Lists.{_∈_, TwoThreads, allBut, pair}
 use Rattle.model.specs.Reordering.{BringsAll}
-use Rattle.model.specs.Cone.{InCone, Brings, Earlier, Inside, AllInside, root, brought, earlier, observes, closes}
+use Rattle.model.specs.Cone.{InCone, Brings, Earlier, Precedes, Inside, AllInside, root, brought, precedes, observes, closes}
 use Rattle.model.specs.Race.{Apart, Candidate, Reported, Preferred, Shown, Witness}
 use Rattle.model.specs.Extension.{Extension}
 use Rattle.model.proofs.Lists.{mem-reverse}
 use Rattle.model.proofs.Histories.{to-legal, of-legal, observed-range}
-use Rattle.model.proofs.Agree.{Agree, Within, same-thread, same-kind, legal-agree, only-agree, observed-agree, extension-agree, extension-thread, extended-valid, extended-correct, extended-next}
+use Rattle.model.proofs.Agree.{Agree, Closed, Within, same-thread, same-kind, awaits-agree, legal-agree, only-agree, observed-agree, extension-agree, extension-closed, trace-closed, extension-thread, extended-valid, extended-correct, extended-next}
 use Rattle.model.proofs.Threads.{in-pair-a, two-inside}
 use Rattle.model.proofs.OneShown.{candidate-brings}
 
 -- u and v agree up to n, where all events are by the roots' threads
 record SameStart (u v : Trace) (n : ℕ) (R : List ℕ) : Type 0 where
   agree : Agree u v n
-  low : (r : ℕ) → r ∈ R → r ≤ n
+  low : (r : ℕ) → r ∈ R → (1 ≤ r) × (r ≤ n)
   inside : (k : ℕ) → 1 ≤ k → k ≤ n → Inside u R k
   valid : (k : ℕ) → 1 ≤ k → k ≤ n → Valid v k
+  closed : Closed v u n
 
 module _ (u v : Trace) (n : ℕ) (R : List ℕ) (p : SameStart u v n R) where
   earlier-agree : (j k : ℕ) → k ≤ n → Earlier u j k → Earlier v j k
@@ -33,15 +34,20 @@ module _ (u v : Trace) (n : ℕ) (R : List ℕ) (p : SameStart u v n R) where
     thread = sym (same-thread u v n (p .agree) j (let z = e .less in omega arith)) ∙ e .thread ∙ same-thread u v n (p .agree) k l;
   }
 
+  precedes-agree : (j k : ℕ) → 1 ≤ k → k ≤ n → Precedes u j k → (1 ≤ j) × (j ≤ n) × Precedes v j k
+  precedes-agree j k f l (inl e) = (e .first, (let z = e .less in omega arith), inl (earlier-agree j k l e))
+  precedes-agree j k f l (inr a) =
+      let x = p .closed k j f l a in (x .1 .positive, x .0, inr (awaits-agree v u n (λ i q. sym (p .agree i q)) (p .closed) k j f l a))
+
   brings-agree : (k j : ℕ) → 1 ≤ k → k ≤ n → Brings u R k j → (1 ≤ j) × (j ≤ n) × Brings v R k j
-  brings-agree k j f l (earlier e) = (e .first, (let z = e .less in omega arith), earlier (earlier-agree j k l e))
+  brings-agree k j f l (precedes e) = let x = precedes-agree j k f l e in (x .0, x .1, precedes (x .2))
   brings-agree k j f l (observes r o ne) =
       let m = observed-range u k (rw o ne) in
       (omega arith, omega arith, observes (sym (same-kind u v n (p .agree) k l) ∙ r) (sym (observed-agree u v n (p .agree) k l) ∙ o) ne)
   brings-agree k j f l (closes r out o ne) = let x = p .inside k f l in absurd (out (x .0) (x .1) (x .2))
 
   cone-agree : {k : ℕ} → InCone u R k → (1 ≤ k) × (k ≤ n) × InCone v R k
-  cone-agree {k} (root {r = r} m e) = let l = p .low r m in (e .first, (let z = e .less in omega arith), root m (earlier-agree k r l e))
+  cone-agree {k} (root {r = r} m e) = let l = p .low r m in let x = precedes-agree k r (l .0) (l .1) e in (x .0, x .1, root m (x .2))
   cone-agree {k = j} (brought {k = k} x b) =
       let ih = cone-agree x in let y = brings-agree k j (ih .0) (ih .1) b in (y .0, y .1, brought (ih .2) (y .2))
 
@@ -70,7 +76,7 @@ module _ (u v : Trace) (n : ℕ) (R : List ℕ) (p : SameStart u v n R) (q : Sam
       record {
         roots-out = λ r x y. c .roots-out r x (back r y);
         correct = rw (reverse-reverse ρ) at (of-legal v (reverse ρ)
-            (legal-agree u v n (p .agree) (reverse ρ) (λ k x. w k x .1) (λ k x. p .valid k (w k x .0) (w k x .1)) (to-legal u ρ (c .correct))));
+            (legal-agree u v n (p .agree) (q .closed) (reverse ρ) (λ k x. w k x .1) (λ k x. p .valid k (w k x .0) (w k x .1)) (to-legal u ρ (c .correct))));
         members = λ k. ((λ x. cone-agree u v n R p (c .members k .0 x) .2), (λ x. c .members k .1 (back k x)));
         order = rw (only-agree u v n (p .agree) (allBut m) ρ (within u v n R p m ρ c)) at (c .order);
       }
@@ -87,8 +93,8 @@ module _ (u v : Trace) (n : ℕ) (R : List ℕ) (p : SameStart u v n R) (q : Sam
 -- ---- a trace and an extension
 
 module _ (t : Trace) (R : List ℕ) (v : (r : ℕ) → r ∈ R → Valid t r) (inside : AllInside t R) (t′ : Trace) (long : Extension t t′) where
-  low : (r : ℕ) → r ∈ R → r ≤ length t
-  low r m = v r m .bounded
+  low : (r : ℕ) → r ∈ R → (1 ≤ r) × (r ≤ length t)
+  low r m = let x = v r m in (x .positive, x .bounded)
 
   up : SameStart t t′ (length t) R
   up = record {
@@ -96,6 +102,7 @@ module _ (t : Trace) (R : List ℕ) (v : (r : ℕ) → r ∈ R → Valid t r) (i
     low = low;
     inside = λ k p q. inside k (record { positive = p; bounded = q });
     valid = λ k p q. extended-valid t t′ long k (record { positive = p; bounded = q });
+    closed = trace-closed t t′ long;
   }
 
   down : SameStart t′ t (length t) R
@@ -103,8 +110,9 @@ module _ (t : Trace) (R : List ℕ) (v : (r : ℕ) → r ∈ R → Valid t r) (i
     agree = λ k p. sym (extension-agree t t′ long k p);
     low = low;
     inside = λ k p q.
-        let x = inside k (record { positive = p; bounded = q }) in (x .0, x .1, sym (extension-thread t t′ long (x .0) (low (x .0) (x .1))) ∙ x .2 ∙ extension-thread t t′ long k q);
+        let x = inside k (record { positive = p; bounded = q }) in (x .0, x .1, sym (extension-thread t t′ long (x .0) (low (x .0) (x .1) .1)) ∙ x .2 ∙ extension-thread t t′ long k q);
     valid = λ k p q. record { positive = p; bounded = q };
+    closed = extension-closed t t′ long;
   }
 
   pub same-candidates : (m : ℕ) (ρ : List ℕ) → Candidate t R m ρ ↔ Candidate t′ R m ρ

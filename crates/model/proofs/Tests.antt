@@ -1,15 +1,16 @@
 -- Going by cases, and what the definitions' tests say.
-use Prim.Native.Nat.{ℕ, zero, suc}
+use Prim.Native.Nat.{ℕ, zero, suc, _≤_}
 use native.Mathlib.Omega.{arith}
 use mathlib.Core.Path.{_≡_, refl, sym, _∙_, ap}
 use mathlib.Core.Logic.{_≢_, _⊎_, inl, inr, ⊎-elim}
 use mathlib.Core.Bool.{Bool, true, false, _&&_, _||_, true≢false, false≢true}
 use mathlib.Core.List.{List, _∷_, List·Memᴰ, List·Memᴰ·cases-cons}
 use lib.ListN.{length, List·getD-eq-default}
-use lib.Dec.{eqb, ltb}
+use lib.Dec.{eqb, leb, ltb}
 use borrow.Author.Tests.{eqb-true, eq-eqb, ne-eqb, ltb-true, ltb-false}
-use Rattle.model.specs.Trace.{Trace, Event, Valid, noEvent, kindOf, objectOf, does}
+use Rattle.model.specs.Trace.{Trace, Event, Valid, noEvent, fork, kindOf, objectOf, does}
 use Rattle.model.specs.Lists.{just, allBut}
+use Rattle.model.specs.Good.{Good, maxObject, objectLimit}
 
 pub by-cases {ℓ} : {G : Type ℓ} (b : Bool) → (b ≡ true → G) → (b ≡ false → G) → G
 by-cases true f g = f refl
@@ -102,3 +103,12 @@ kind-valid t (suc k) ne =
     by-cases (ltb k (length t))
     (λ e. let l = ltb-true k (length t) e in record { positive = omega arith; bounded = omega arith })
     (λ e. absurd (ne (ap (λ (x : Event). x .kind) (List·getD-eq-default t noEvent {n = k} (ltb-false k (length t) e)))))
+
+-- ---- limits
+
+-- no object is above the limit of cells and locks
+pub limit-small : (c : ℕ) → objectLimit c ≤ maxObject
+limit-small c = by-cases (leb fork c) (λ e. rw e (omega arith)) (λ e. rw e (omega arith))
+
+pub object-small : (t : Trace) → Good t → (k : ℕ) → Valid t k → objectOf t k ≤ maxObject
+object-small t g k v = let p = g .object-limit k v in let q = limit-small (kindOf t k) in omega arith

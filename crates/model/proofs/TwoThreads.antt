@@ -13,15 +13,17 @@ use Rattle.model.specs.Trace.{Trace, Valid, threadOf}
 use Rattle.model.specs.Lists.{_∈_, TwoThreads, OnlyBeside, anyIn, only, own, just, allBut, pair}
 use Rattle.model.specs.Observed.{observed}
 use Rattle.model.specs.Good.{Good}
+use Rattle.model.specs.Awaits.{Awaits}
 use Rattle.model.specs.Reordering.{Enabled, Correct}
-use Rattle.model.specs.Cone.{InCone, Brings, Earlier, AllInside, root, brought, earlier, observes, closes}
+use Rattle.model.specs.Cone.{InCone, Brings, Earlier, AllInside, root, brought, precedes, observes, closes}
 use Rattle.model.specs.Race.{Apart, Candidate, Increasing, Reported, ReportedWith}
 use Rattle.model.specs.Extension.{Extension, TogetherInExtension, PredictableInExtension}
 use Rattle.model.proofs.Tests.{by-cases, true-just, allBut-true}
 use Rattle.model.proofs.Lists.{any-mem, mem-any, mem-only, only-mem, keep-keep, mem-reverse, reverse-mem, increasing-keep}
-use Rattle.model.proofs.Histories.{Legal, to-legal, of-legal, legal-valid, own-increasing, enabled-mem, mem-enabled, observed-range, legal-observed}
+use Rattle.model.proofs.AwaitsExact.{awaits-valid}
+use Rattle.model.proofs.Histories.{Legal, to-legal, of-legal, legal-valid, own-increasing, enabled-mem, mem-enabled, observed-range, legal-observed, legal-ready}
 use Rattle.model.proofs.Locks.{locked, legal-only}
-use Rattle.model.proofs.Agree.{legal-agree, extension-agree, extension-thread}
+use Rattle.model.proofs.Agree.{awaits-agree, legal-agree, extension-agree, extension-thread, extension-closed, trace-closed}
 use Rattle.model.proofs.Threads.{apart-same, two-inside, two-beside}
 use Rattle.model.proofs.OneShown.{candidate-brings}
 use Rattle.model.proofs.ConeEvents.{earlier-valid}
@@ -94,21 +96,31 @@ module _ (t : Trace) (R : List ℕ) (c : Apart t R) (inside : AllInside t R) (t�
 
   kept-legal : Legal t kept
   kept-legal =
-      legal-agree t′ t (length t) (λ k p. sym (extension-agree t t′ long k p)) kept
+      legal-agree t′ t (length t) (λ k p. sym (extension-agree t t′ long k p)) (trace-closed t t′ long) kept
       (λ k m. near-valid k (kept-near k m) .bounded) (λ k m. near-valid k (kept-near k m))
       (legal-only t′ s h l (locked t′ (long .good .well-formed) h l) (λ k m p r.
       by-cases (eqb (observed t′ k) 0) (λ e. inl (eqb-true (observed t′ k) 0 e)) (λ e.
       let w = observed-range t′ k (eqb-false (observed t′ k) 0 e) in
       let v = near-valid k (mem-near k m p) .bounded in
-      inr (known (observed t′ k) (record { positive = w .0; bounded = omega arith })))))
+      inr (known (observed t′ k) (record { positive = w .0; bounded = omega arith }))))
+      (λ k m p j a. let v = near-valid k (mem-near k m p) in known j (extension-closed t t′ long k j (v .positive) (v .bounded) a .1)))
+
+  -- what an enabled root waits for is in it
+  awaited-kept : (r j : ℕ) → r ∈ R → Awaits t r j → j ∈ kept
+  awaited-kept r j i a =
+      let v = c .valid r i in
+      let b = awaits-agree t′ t (length t) (λ k p. sym (extension-agree t t′ long k p)) (trace-closed t t′ long) r j (v .positive) (v .bounded) a in
+      only-mem t′ s (en r i .ready j b) (known j (awaits-valid t r j a))
 
   brings-kept : (k j : ℕ) → k ∈ kept → Brings t R k j → j ∈ kept
-  brings-kept k j m (earlier e) = near-kept j (near-earlier t R j k e (kept-near k m))
+  brings-kept k j m (precedes (inl e)) = near-kept j (near-earlier t R j k e (kept-near k m))
+  brings-kept k j m (precedes (inr a)) = legal-ready t kept kept-legal k m j a
   brings-kept k j m (observes r o ne) = rw o at (legal-observed t kept kept-legal k m r (rw o ne))
   brings-kept k j m (closes r out o ne) = let x = inside k (near-valid k (kept-near k m)) in absurd (out (x .0) (x .1) (x .2))
 
   cone-kept : {k : ℕ} → InCone t R k → k ∈ kept
-  cone-kept {k} (root {r = r} m e) = near-kept k (r, m, e)
+  cone-kept {k} (root {r = r} m (inl e)) = near-kept k (r, m, e)
+  cone-kept {k} (root {r = r} m (inr a)) = awaited-kept r k m a
   cone-kept {k = j} (brought {k = k} x b) = brings-kept k j (cone-kept x) b
 
   root-not-near : (r : ℕ) → r ∈ R → Near t R r → ⊥
@@ -118,7 +130,7 @@ module _ (t : Trace) (R : List ℕ) (c : Apart t R) (inside : AllInside t R) (t�
   kept-candidate m d beside = record {
     roots-out = λ r i x. root-not-near r i (kept-near r (cone-kept x));
     correct = of-legal t kept kept-legal;
-    members = λ k. ((λ i. let x = kept-near k (mem-reverse k kept i) in root (x .1) (x .2)), (λ x. reverse-mem (cone-kept x)));
+    members = λ k. ((λ i. let x = kept-near k (mem-reverse k kept i) in root (x .1) (inl (x .2))), (λ x. reverse-mem (cone-kept x)));
     order = order-kept t m d beside (reverse kept) (of-legal t kept kept-legal);
   }
 

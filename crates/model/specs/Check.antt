@@ -4,7 +4,7 @@ use mathlib.Core.Path.{_≡_}
 use mathlib.Core.List.{List, [], _∷_, _++_}
 use Rattle.model.specs.Trace.{Trace, Valid, read, acquire, kindOf}
 use Rattle.model.specs.Good.{Free}
-use Rattle.model.specs.Reordering.{Next, Sees, EnabledAfter}
+use Rattle.model.specs.Reordering.{Next, Sees, Ready, EnabledAfter}
 use Rattle.model.specs.Rows.{Row, row, nothing, numbered, First}
 
 -- the rows of event k after the history h
@@ -14,6 +14,7 @@ placeRows t h k =
     ∷ row 22 nothing (¬ Next t h k)
     ∷ row 23 nothing ((kindOf t k ≡ read) × ¬ Sees t h k)
     ∷ row 24 nothing ((kindOf t k ≡ acquire) × ¬ Free t h k)
+    ∷ row 27 nothing (¬ Ready t h k)
     ∷ []
 
 -- of a list after the history h: those of each place, in order

@@ -1,13 +1,14 @@
 -- Causal cone.
 use Prim.Native.Nat.{ℕ, _≤_, _<_}
 use mathlib.Core.Path.{_≡_}
-use mathlib.Core.Logic.{_≢_}
+use mathlib.Core.Logic.{_≢_, _⊎_}
 use mathlib.Core.Bool.{Bool, cond, _&&_}
 use mathlib.Core.List.{List}
 use lib.Dec.{eqb, ltb}
 use Rattle.model.specs.Trace.{Trace, Valid, read, acquire, threadOf, kindOf, objectOf}
 use Rattle.model.specs.Lists.{_∈_, nearest, numbers}
 use Rattle.model.specs.Observed.{observed}
+use Rattle.model.specs.Awaits.{Awaits}
 use Rattle.model.specs.Sections.{isOutermost, isLast}
 
 -- j is an earlier event of k's thread
@@ -15,6 +16,10 @@ pub record Earlier (t : Trace) (j k : ℕ) : Type 0 where
   pub first : 1 ≤ j
   pub less : j < k
   pub thread : threadOf t j ≡ threadOf t k
+
+-- j must stand before k: it is an earlier event of k's thread, or k waits for it
+abbrev pub Precedes : Trace → ℕ → ℕ → Type 0
+Precedes t j k = Earlier t j k ⊎ Awaits t k j
 
 -- matching release of the outermost acquire k: the next last release of its lock by its thread; 0 where there is none, and for every other event
 unfoldable pub givesBack : Trace → ℕ → ℕ → Bool
@@ -39,15 +44,15 @@ AllInside t R = (k : ℕ) → Valid t k → Inside t R k
 
 -- event k brings event j into it
 pub data Brings (t : Trace) (R : List ℕ) (k j : ℕ) : Type 0 where
-  -- (ii) with an event all earlier ones of its thread
-  earlier : Earlier t j k → Brings t R k j
+  -- (ii) with an event all earlier ones of its thread, and the fork of its thread; with a join all the joined thread's events
+  precedes : Precedes t j k → Brings t R k j
   -- (iii) with a read its observed write
   observes : kindOf t k ≡ read → observed t k ≡ j → j ≢ 0 → Brings t R k j
   -- (iv) with an outermost acquire by a thread other than the roots' its matching release, if there is one
   closes : kindOf t k ≡ acquire → Outside t R k → matching t k ≡ j → j ≢ 0 → Brings t R k j
 
 pub data InCone (t : Trace) (R : List ℕ) : ℕ → Type 0 where
-  -- (i) every event before a root in its thread
-  root : {k r : ℕ} → r ∈ R → Earlier t k r → InCone t R k
+  -- (i) every event before a root in its thread, and the fork of its thread
+  root : {k r : ℕ} → r ∈ R → Precedes t k r → InCone t R k
   -- (ii) to (iv)
   brought : {j k : ℕ} → InCone t R k → Brings t R k j → InCone t R j

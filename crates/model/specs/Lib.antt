@@ -3,6 +3,7 @@ pub mod Lists
 pub mod Observed
 pub mod Rows
 pub mod Good
+pub mod Awaits
 pub mod Reordering
 pub mod Sections
 pub mod Cone

@@ -4,10 +4,11 @@ use mathlib.Core.Path.{_≡_}
 use mathlib.Core.Logic.{_≢_}
 use mathlib.Core.Bool.{true}
 use mathlib.Core.List.{List, [], _∷_, _++_, reverse}
-use Rattle.model.specs.Trace.{Trace, Valid, read, write, acquire, threadOf, kindOf, objectOf, does}
+use Rattle.model.specs.Trace.{Trace, Valid, read, write, acquire, fork, join, threadOf, kindOf, objectOf, does}
 use Rattle.model.specs.Lists.{_∈_, own, before, numbers, pair}
 use Rattle.model.specs.Observed.{lastWrite, observed}
 use Rattle.model.specs.Good.{Free}
+use Rattle.model.specs.Awaits.{Awaits}
 
 -- ---- in the paper's words
 
@@ -28,6 +29,10 @@ pub record CorrectReordering (t : Trace) (ρ : List ℕ) : Type 0 where
   pub reads : (σ : List ℕ) (k : ℕ) → StandsAfter ρ σ k → kindOf t k ≡ read → observed t k ≢ 0 → lastWrite t (objectOf t k) (reverse σ) ≡ observed t k
   -- or, if it saw the start, no write to its cell stands before it in the list
   pub start-reads : (σ : List ℕ) (k : ℕ) → StandsAfter ρ σ k → kindOf t k ≡ read → observed t k ≡ 0 → (j : ℕ) → j ∈ σ → ¬ (does t write (objectOf t k) j ≡ true)
+  -- a forked thread's events follow its fork
+  pub forks : (σ : List ℕ) (k : ℕ) → StandsAfter ρ σ k → (j : ℕ) → kindOf t j ≡ fork → objectOf t j ≡ threadOf t k → j ∈ σ
+  -- a join follows all events of the joined thread
+  pub joins : (σ : List ℕ) (k : ℕ) → StandsAfter ρ σ k → kindOf t k ≡ join → (j : ℕ) → Valid t j → threadOf t j ≡ objectOf t k → j ∈ σ
 
 -- ---- event by event: the definition that everything else uses
 
@@ -37,9 +42,14 @@ pub record Next (t : Trace) (h : List ℕ) (k : ℕ) : Type 0 where
   pub valid : Valid t k
   pub turn : own t (threadOf t k) h ≡ own t (threadOf t k) (before k)
 
+-- what k waits for is in a history: its thread's fork, if the trace has one; of a join also the joined thread's events
+abbrev pub Ready : Trace → List ℕ → ℕ → Type 0
+Ready t h k = (j : ℕ) → Awaits t k j → j ∈ h
+
 -- enabled after a history
 pub record Enabled (t : Trace) (h : List ℕ) (k : ℕ) : Type 0 where
   pub next : Next t h k
+  pub ready : Ready t h k
 
 -- the read k sees after a history the write it observed, or no write where it saw the start
 abbrev pub Sees : Trace → List ℕ → ℕ → Type 0

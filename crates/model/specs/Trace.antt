@@ -6,7 +6,7 @@ use mathlib.Core.List.{List, map}
 use lib.ListN.{length, getD}
 use lib.Dec.{eqb}
 
--- The object is the cell of a read or write, or the lock of an acquire or release. Cells and locks are numbered apart.
+-- The object is the cell of a read or write, the lock of an acquire or release, or the thread that a fork starts or a join waits for. Cells and locks are numbered apart.
 pub record Event : Type 0 where
   pub thread : ℕ
   pub kind : ℕ
@@ -24,6 +24,12 @@ acquire = 3
 
 abbrev pub release : ℕ
 release = 4
+
+abbrev pub fork : ℕ
+fork = 5
+
+abbrev pub join : ℕ
+join = 6
 
 abbrev pub Trace : Type 0
 Trace = List Event

@@ -5,7 +5,7 @@ use mathlib.Core.Path.{_≡_, refl}
 use borrow.Author.Tests.{ne-eqb}
 use Rattle.limits.specs.Refusals.{numberOf}
 use Rattle.limits.specs.declared.Refusal.{Refusal}
-use Rattle.limits.specs.declared.Refusal.the-variants.{FileSize, Mark, EventCount, Distance, Kind, Thread, Object, LockHeld, NotHolder, ListShort, NotConflicting, AreaShort, Preamble}
+use Rattle.limits.specs.declared.Refusal.the-variants.{FileSize, Mark, EventCount, Distance, Kind, Thread, Object, SelfOrSecond, AlreadyBegun, AlreadyJoined, LockHeld, NotHolder, ListShort, NotConflicting, AreaShort, Preamble}
 use Rattle.questions.specs.declared.Judgement.{Judgement}
 use Rattle.questions.specs.declared.Judgement.the-variants.{Refused as NotJudged, Good}
 use Rattle.questions.specs.declared.Noted.{Noted}
@@ -48,6 +48,9 @@ refusal-back Distance = refl
 refusal-back (Kind k) = refl
 refusal-back (Thread k) = refl
 refusal-back (Object k) = refl
+refusal-back (SelfOrSecond k) = refl
+refusal-back (AlreadyBegun k) = refl
+refusal-back (AlreadyJoined k) = refl
 refusal-back (LockHeld k) = refl
 refusal-back (NotHolder k) = refl
 refusal-back ListShort = refl
@@ -63,6 +66,9 @@ low Distance = omega arith
 low (Kind k) = omega arith
 low (Thread k) = omega arith
 low (Object k) = omega arith
+low (SelfOrSecond k) = omega arith
+low (AlreadyBegun k) = omega arith
+low (AlreadyJoined k) = omega arith
 low (LockHeld k) = omega arith
 low (NotHolder k) = omega arith
 low ListShort = omega arith

@@ -7,7 +7,7 @@ use lib.ListN.{getD}
 use lib.Dec.{eqb}
 use Rattle.limits.specs.Refusals.{numberOf, eventOf}
 use Rattle.limits.specs.declared.Refusal.{Refusal}
-use Rattle.limits.specs.declared.Refusal.the-variants.{FileSize, Mark, EventCount, Distance, Kind, Thread, Object, LockHeld, NotHolder, ListShort, NotConflicting, AreaShort, Preamble}
+use Rattle.limits.specs.declared.Refusal.the-variants.{FileSize, Mark, EventCount, Distance, Kind, Thread, Object, SelfOrSecond, AlreadyBegun, AlreadyJoined, LockHeld, NotHolder, ListShort, NotConflicting, AreaShort, Preamble}
 use Rattle.limits.specs.declared.EventNumber.{EventNumber}
 use Rattle.limits.specs.declared.EventNumber.the-variants.{Absent, At}
 use Rattle.questions.specs.declared.Judgement.{Judgement}
@@ -37,10 +37,11 @@ eventNumber (At k) = k
 abbrev pub ofRefusal : Refusal → Parts
 ofRefusal r = parts (numberOf r) (eventNumber (eventOf r)) 0
 
--- the refusals in the order of their numbers, from 0 on; there is none with the number 0
+-- the refusals in the order of their numbers, from 0 on; there is none with the number 0 or 14
 abbrev pub refusals : ℕ → List Refusal
 refusals k =
-    FileSize ∷ FileSize ∷ Mark ∷ EventCount ∷ Distance ∷ Kind k ∷ Thread k ∷ Object k ∷ LockHeld k ∷ NotHolder k ∷ ListShort ∷ NotConflicting ∷ AreaShort ∷ Preamble ∷ []
+    FileSize ∷ FileSize ∷ Mark ∷ EventCount ∷ Distance ∷ Kind k ∷ Thread k ∷ Object k ∷ LockHeld k ∷ NotHolder k ∷ ListShort ∷ NotConflicting ∷ AreaShort ∷ Preamble
+    ∷ FileSize ∷ SelfOrSecond k ∷ AlreadyBegun k ∷ AlreadyJoined k ∷ []
 
 abbrev pub toRefusal : Parts → Refusal
 toRefusal p = getD (refusals (p .first)) (p .case) FileSize

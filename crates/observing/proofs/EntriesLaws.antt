@@ -13,7 +13,7 @@ use Rattle.model.specs.Observed.{observed}
 use Rattle.model.specs.Good.{Good}
 use Rattle.model.proofs.Tests.{by-cases, kind-valid}
 use Rattle.model.proofs.Lists.{after, numbers-split}
-use Rattle.table.proofs.LinkFacts.{reads-observed, observed-less}
+use Rattle.table.proofs.LinkFacts.{reads-observed, waits-less}
 use Rattle.observing.specs.Observing.{sees, observedIn}
 use Rattle.observing.specs.Entries.{notARead, answerOf, entryAt, entries, withEntries, observationsIn}
 use Rattle.observing.specs.declared.Observed.{Observed}
@@ -22,7 +22,7 @@ use mathlib.Core.Option.{none}
 use mir.Syntax.{w16}
 use mir.Val.{Fits}
 use Rattle.limits.specs.declared.Refusal.the-variants.{ListShort}
-use Rattle.table.specs.Links.{observedBy}
+use Rattle.table.specs.Links.{waitsFor}
 use Rattle.observing.specs.declared.Observations.the-variants.{Refused, Given}
 use Rattle.observing.proofs.ObservingExact.{some-write}
 
@@ -53,7 +53,7 @@ observed-small {t} g k e =
     let v = kind-valid t k (λ z. omega arith) in
     let b = v .bounded in
     let s = g .size in
-    let l = observed-less t k (v .positive) in
+    let l = waits-less t (g .well-formed) k v in
     let r = reads-observed t k e in omega arith
 
 -- an entry stands for question 2's answer
@@ -188,7 +188,7 @@ module _ (t : Trace) (k : ℕ) where
     pub other-kind : (d ≡ read → ⊥) → notARead ≡ entryAt t k
     other-kind n = no-entry (λ e. n (ed ∙ e))
 
-    module _ (e : d ≡ read) (w : ℕ) (ew : w ≡ observedBy t k) where
+    module _ (e : d ≡ read) (w : ℕ) (ew : w ≡ waitsFor t k) where
       by-link : w ≡ observed t k
       by-link = ew ∙ reads-observed t k (sym ed ∙ e)
 

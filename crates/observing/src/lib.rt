@@ -51,7 +51,7 @@ fn entry_at(table: &[u16], k: usize) -> u16
     if table::kind_at(table, k) != Event::READ {
         return NOT_A_READ;
     }
-    table::observed_at(table, k) as u16
+    table::waits_at(table, k) as u16
 }
 
 // The observed write of event k, whatever k is.

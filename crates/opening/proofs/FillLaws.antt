@@ -12,10 +12,11 @@ use mir.Syntax.{w16}
 use mir.Val.{Fits}
 use Rattle.model.specs.Trace.{Trace, Valid, noEvent, at, threadOf, kindOf, objectOf}
 use Rattle.model.specs.Good.{Good}
-use Rattle.model.proofs.Tests.{by-cases}
+use Rattle.model.proofs.Tests.{by-cases, object-small}
 use Rattle.table.specs.Table.{words, word, eventIn, trace, columns, column, room, Place, withWord}
 use Rattle.table.proofs.TableLaws.{trace-length, trace-at, word-there}
 use Rattle.opening.specs.Filling.{Columns, Filled, Built}
+use Rattle.opening.specs.Knows.{Tails}
 
 -- ---- one word
 
@@ -99,19 +100,22 @@ module _ {t : Trace} {c : ℕ} {s : List ℕ} (p : Columns t c s) (two : 2 ≤ c
   pub columns-own : Columns (trace s) c s
   columns-own = rw columns-trace p
 
+  pub columns-tails : {tails : List ℕ} → Tails t tails → Tails (trace s) tails
+  columns-tails x = rw columns-trace x
+
 -- ---- `fill`
 
-pub fill-end : {t : Trace} {s₂ s₃ s₄ s₅ s₆ s : List ℕ}
-    → Columns (trace s₆) columns s → Columns (trace s₅) 6 s₆ → Columns (trace s₄) 5 s₅ → Columns (trace s₃) 4 s₄ → Columns (trace s₂) 3 s₃ → Columns t 2 s₂ → Filled t s
-fill-end p p₆ p₅ p₄ p₃ p₂ =
-    let e = columns-trace p₆ (omega arith) ∙ columns-trace p₅ (omega arith) ∙ columns-trace p₄ (omega arith) ∙ columns-trace p₃ (omega arith) ∙ columns-trace p₂ (omega arith) in
+pub fill-end : {t : Trace} {s₂ s₃ s₄ s₅ s₆ s₇ s : List ℕ}
+    → Columns (trace s₇) columns s → Columns (trace s₆) 7 s₇ → Columns (trace s₅) 6 s₆ → Columns (trace s₄) 5 s₅ → Columns (trace s₃) 4 s₄ → Columns (trace s₂) 3 s₃ → Columns t 2 s₂ → Filled t s
+fill-end p p₇ p₆ p₅ p₄ p₃ p₂ =
+    let e = columns-trace p₇ (omega arith) ∙ columns-trace p₆ (omega arith) ∙ columns-trace p₅ (omega arith) ∙ columns-trace p₄ (omega arith) ∙ columns-trace p₃ (omega arith) ∙ columns-trace p₂ (omega arith) in
     let q = columns-own p (omega arith) in
     record { long = p .long ∙ rw e; same = columns-trace p (omega arith) ∙ e; linked = record { good = q .good; is = q .is } }
 
 -- ---- the events' own words
 
 pub own-object : {t : Trace} {k : ℕ} → Good t → Valid t k → (o : ℕ) → o ≡ objectOf t k → Fits w16 o
-own-object {k = k} g v o e = let z = g .object-limit k v in omega arith
+own-object {t} {k} g v o e = let z = object-small t g k v in omega arith
 
 module _ (t : Trace) (k c : ℕ) where
   pub own-first : c ≡ 0 → (x y : ℕ) → x ≡ threadOf t k → y ≡ kindOf t k → x + 256 * y ≡ column c t k

@@ -8,15 +8,15 @@ use mathlib.Core.Bool.{true, false, Bool, cond, _&&_}
 use mathlib.Core.List.{List, _∷_}
 use lib.ListN.{set, replicate, length}
 use borrow.Author.Tests.{eq-eqb, ne-eqb, eqb-true, lt-ltb, le-ltb}
-use Rattle.model.specs.Trace.{Trace, Valid, acquire, release, threadOf, kindOf, objectOf}
+use Rattle.model.specs.Trace.{Trace, Valid, acquire, release, fork, threadOf, kindOf, objectOf}
 use Rattle.model.specs.Lists.{before, nearest, upTo}
 use Rattle.model.specs.Good.{Good, maxThread, maxObject, depth, holder, WellFormed}
 use Rattle.model.specs.Sections.{isLast, isOutermost}
-use Rattle.model.proofs.Tests.{true-just, false-just, false-does, by-cases, not-on}
+use Rattle.model.proofs.Tests.{true-just, false-just, true-does, false-does, by-cases, not-on, object-small}
 use Rattle.table.specs.Entries.{Entries}
-use Rattle.table.specs.Links.{lastOf, lastTaken}
+use Rattle.table.specs.Links.{lastOf, lastFork, lastTaken}
 use Rattle.table.proofs.EntryLaws.{entries-new, entries-same, entries-put}
-use Rattle.opening.specs.Knows.{LastEvents, Depths, NextEnds, lastOn, nextEnd, LastTaken}
+use Rattle.opening.specs.Knows.{LastEvents, Forks, Depths, NextEnds, lastOn, nextEnd, LastTaken}
 use lib.Dec.{eqb, ltb}
 use Rattle.model.specs.Cone.{givesBack, matching}
 use Rattle.model.proofs.Lists.{after, numbers-split, nearest-skip}
@@ -78,8 +78,11 @@ module _ (t : Trace) (w : WellFormed t) (k : ℕ) where
 
 -- ---- at the start
 
-pub events-new : (t : Trace) → LastEvents t 1 (replicate (maxThread + 1) 0)
-events-new t = entries-new _ maxThread (λ c. refl)
+pub events-new : (t : Trace) (l : List ℕ) → l ≡ replicate (maxThread + 1) 0 → LastEvents t 1 l
+events-new t l e = rw e (entries-new _ maxThread (λ c. refl))
+
+pub forks-new : (t : Trace) → Forks t 1 (replicate (maxThread + 1) 0)
+forks-new t = entries-new _ maxThread (λ c. refl)
 
 pub depths-new : (t : Trace) → Depths t 1 (replicate (maxObject + 1) 0)
 depths-new t = entries-new _ maxObject (λ x. refl)
@@ -107,11 +110,21 @@ module _ {t : Trace} {k : ℕ} (g : Good t) (v : Valid t k) where
       known-next (λ x h. lastOf t h x)
       (entries-put p _ c k (g .thread-limit k v) (rw (true-just c c refl)) (λ d ne. rw (false-just d c (λ q. ne (sym q)))))
 
+  module _ {l : List ℕ} (p : Forks t k l) where
+    pub forks-put : kindOf t k ≡ fork → objectOf t k ≤ maxThread → Forks t (k + 1) (set l (objectOf t k) k)
+    forks-put e h =
+        let x = objectOf t k in
+        known-next (lastFork t)
+        (entries-put p (λ c. lastFork t c (k ∷ before k)) x k h (rw (true-does t fork x k e refl)) (λ c ne. rw (not-on t fork c k ne)))
+
+    pub forks-same : kindOf t k ≢ fork → Forks t (k + 1) l
+    forks-same ne = known-next (lastFork t) (entries-same p (λ c. lastFork t c (k ∷ before k)) (λ c. rw (false-does t fork c k ne)))
+
   module _ {l : List ℕ} (p : Depths t k l) where
     pub depths-put : (d : ℕ) → d ≡ depth t (objectOf t k) (k ∷ before k) → Depths t (k + 1) (set l (objectOf t k) d)
     depths-put d e =
         known-next (depth t)
-        (entries-put p (λ x. depth t x (k ∷ before k)) (objectOf t k) d (g .object-limit k v) (sym e) (λ x ne. rw (not-on t acquire x k ne, not-on t release x k ne)))
+        (entries-put p (λ x. depth t x (k ∷ before k)) (objectOf t k) d (object-small t g k v) (sym e) (λ x ne. rw (not-on t acquire x k ne, not-on t release x k ne)))
 
     pub depths-same : kindOf t k ≢ acquire → kindOf t k ≢ release → Depths t (k + 1) l
     depths-same a r = known-next (depth t) (entries-same p (λ x. depth t x (k ∷ before k)) (λ x. rw (false-does t acquire x k a, false-does t release x k r)))
@@ -120,7 +133,7 @@ module _ {t : Trace} {k : ℕ} (g : Good t) (v : Valid t k) where
     pub ends-put : isLast t k ≡ true → NextEnds t (k - 1) (set l (objectOf t k) k)
     ends-put e =
         let x = objectOf t k in
-        entries-put p _ x k (g .object-limit k v) (end-step t k v x ∙ rw (e, eq-eqb x x refl)) (λ y ne. end-step t k v y ∙ rw (e, ne-eqb x y (λ z. ne (sym z))))
+        entries-put p _ x k (object-small t g k v) (end-step t k v x ∙ rw (e, eq-eqb x x refl)) (λ y ne. end-step t k v y ∙ rw (e, ne-eqb x y (λ z. ne (sym z))))
 
     pub ends-same : isLast t k ≡ false → NextEnds t (k - 1) l
     ends-same e = entries-same p _ (λ x. end-step t k v x ∙ rw e)
@@ -130,7 +143,7 @@ module _ {t : Trace} {k : ℕ} (g : Good t) (v : Valid t k) where
     taken-put e =
         let x = objectOf t k in
         known-next (lastTaken t)
-        (entries-put p (λ y. lastTaken t y (k ∷ before k)) x k (g .object-limit k v) (rw (e, eq-eqb x x refl)) (λ y ne. rw (e, ne-eqb x y (λ z. ne (sym z)))))
+        (entries-put p (λ y. lastTaken t y (k ∷ before k)) x k (object-small t g k v) (rw (e, eq-eqb x x refl)) (λ y ne. rw (e, ne-eqb x y (λ z. ne (sym z)))))
 
     pub taken-same : isOutermost t k ≡ false → LastTaken t (k + 1) l
     taken-same e = known-next (lastTaken t) (entries-same p (λ y. lastTaken t y (k ∷ before k)) (λ y. rw e))

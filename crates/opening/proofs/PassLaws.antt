@@ -7,6 +7,7 @@ use lib.ListN.{length}
 use Rattle.model.specs.Trace.{Trace, Valid}
 use Rattle.table.specs.Table.{trace, columns, column, withWord}
 use Rattle.opening.specs.Filling.{Columns, Turn, Stepped}
+use Rattle.opening.specs.Knows.{LastEvents, Tails}
 use Rattle.opening.proofs.FillLaws.{Passed, passed-start, passed-columns, passed-end, passed-more, columns-trace}
 
 -- ---- a step of a pass over the table
@@ -58,6 +59,10 @@ module _ {Knows : Trace → ℕ → List ℕ → Type 0} {c n : ℕ} where
   ahead-start two l p e kn = record { two = two; forward = from-first p l e; knows = kn }
 
   module _ {k : ℕ} {s₀ list s : List ℕ} (p : Ahead Knows c n k s₀ list s) where
+    -- the trace is the same on the way
+    pub ahead-tails : {tails : List ℕ} → Tails (trace s₀) tails → Tails (trace s) tails
+    ahead-tails x = rw (same (p .two) (p .forward .passed)) x
+
     pub ahead-end : n < k → (d : ℕ) → d ≡ suc c → Columns (trace s₀) d s
     ahead-end h d e = rw e (forward-end (p .forward) h)
 
@@ -69,6 +74,13 @@ module _ {Knows : Trace → ℕ → List ℕ → Type 0} {c n : ℕ} where
       ahead-more q =
           let o = p .forward .passed in
           record { two = p .two; forward = forward-more (p .forward) h (q .set) (rw (same (p .two) o)); knows = turn-knows (p .two) o q }
+
+-- behind the last event the list of last events has those of the whole trace
+pub ahead-last : {n k : ℕ} {s₀ list s : List ℕ} → Ahead LastEvents 2 n k s₀ list s → k ≤ n + 1 → n < k → Tails (trace s₀) list
+ahead-last {n} {k} {s₀} {list} p h l =
+    let e = p .forward .all in
+    let z : k ≡ suc (length (trace s₀)) = omega arith in
+    rw z at (p .knows)
 
 -- ---- backwards
 

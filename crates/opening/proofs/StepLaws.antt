@@ -10,21 +10,22 @@ use mir.Val.{Fits}
 use lib.ListN.{getD, set}
 use lib.Dec.{eqb, leb}
 use borrow.Author.Tests.{eqb-true, eqb-false, eq-eqb, ne-eqb}
-use Rattle.model.specs.Trace.{Trace, Valid, read, write, acquire, release, threadOf, kindOf, objectOf}
+use Rattle.model.specs.Trace.{Trace, Valid, read, write, acquire, release, fork, join, threadOf, kindOf, objectOf}
 use Rattle.model.specs.Lists.{before}
 use Rattle.model.specs.Observed.{observed}
-use Rattle.model.specs.Good.{depth}
+use Rattle.model.specs.Good.{depth, maxThread}
 use Rattle.model.specs.Sections.{ownDepth, isOutermost, isLast}
-use Rattle.model.proofs.Tests.{by-cases, true-does, false-does}
+use Rattle.model.proofs.Tests.{by-cases, true-does, false-does, object-small}
 use Rattle.model.proofs.Locks.{nobody, depth-before, locked-before}
 use Rattle.model.proofs.SectionsExact.{own-depth-lock, outermost-acquires, last-releases}
 use Rattle.model.proofs.MatchingExact.{matching-inner}
-use Rattle.table.specs.Links.{previous, observedBy, lockDepth, releaseOf, began}
+use Rattle.table.specs.Links.{previous, waitsFor, lockDepth, releaseOf, began, forkOf}
 use Rattle.table.specs.Table.{word, trace, withWord}
 use Rattle.table.specs.Entries.{withWrite}
+use Rattle.table.proofs.LinkFacts.{reads-observed}
 use Rattle.opening.specs.Filling.{Columns, Turn, Stepped}
-use Rattle.opening.specs.Knows.{LastEvents, LastWrites, Depths, NextEnds, LastTaken, accessBegan}
-use Rattle.opening.proofs.KnowsLaws.{events-step, depths-put, depths-same, ends-put, ends-same, matching-next, taken-put, taken-same}
+use Rattle.opening.specs.Knows.{LastEvents, Tails, LastWrites, Forks, Depths, NextEnds, LastTaken, accessBegan}
+use Rattle.opening.proofs.KnowsLaws.{events-step, forks-put, forks-same, depths-put, depths-same, ends-put, ends-same, matching-next, taken-put, taken-same}
 use Rattle.opening.proofs.KnowsExact.{knows-kept}
 
 -- ---- `put_previous`
@@ -37,7 +38,7 @@ previous-step {k} {s} w c ec e =
     let v = w .valid in
     record { set = e ∙ rw (ec, w .knows .is (threadOf (trace s) k) (g .thread-limit k v)); knows = rw ec (events-step g v (w .knows)) }
 
--- ---- `put_observed`
+-- ---- `put_waits` and `put_observed`
 
 module _ {k : ℕ} {s last : List ℕ} (w : Turn LastWrites 3 k s last) (q : ℕ) (eq : q ≡ kindOf (trace s) k) where
   abbrev t : Trace
@@ -51,17 +52,25 @@ module _ {k : ℕ} {s last : List ℕ} (w : Turn LastWrites 3 k s last) (q : ℕ
   unfolding withWrite
   no-write ne = rw (ne-eqb (kindOf t k) write ne) at knows
 
-  module _ (x : ℕ) (ex : x ≡ objectOf t k) {s′ : List ℕ} where
+  -- `put_waits`
+  pub waits-join : q ≡ join → (x : ℕ) → x ≡ objectOf t k → (tails : List ℕ) → Tails (trace s) tails → x ≤ maxThread → {s′ : List ℕ} → s′ ≡ withWord s k 3 (getD tails x 0) → Stepped LastWrites 3 k (k + 1) s s′ last
+  unfolding waitsFor
+  waits-join j x ex tails l h e =
+      let d : kindOf t k ≡ join = sym eq ∙ j in
+      record { set = e ∙ rw (ne-eqb (kindOf t k) read (omega arith), eq-eqb _ _ d, ← ex, l .is x h); knows = no-write (omega arith) }
+
+  -- `put_observed`
+  module _ (nj : kindOf (trace s) k ≢ join) (x : ℕ) (ex : x ≡ objectOf t k) {s′ : List ℕ} where
     pub observed-read : q ≡ read → s′ ≡ withWord s k 3 (getD last x 0) → Stepped LastWrites 3 k (k + 1) s s′ last
-    unfolding observedBy observed
+    unfolding waitsFor observed
     observed-read r e =
         let d : kindOf t k ≡ read = sym eq ∙ r in
-        record { set = e ∙ rw (eq-eqb _ _ d, ex, w .knows .is (objectOf t k) (w .columns .good .object-limit k (w .valid))); knows = no-write (omega arith) }
+        record { set = e ∙ rw (eq-eqb _ _ d, ex, w .knows .is (objectOf t k) (object-small (trace s) (w .columns .good) k (w .valid))); knows = no-write (omega arith) }
 
     module _ (nr : q ≡ read → ⊥) (e : s′ ≡ withWord s k 3 0) where
-      no-link : s′ ≡ withWord s k 3 (observedBy t k)
-      unfolding observedBy
-      no-link = e ∙ rw (ne-eqb (kindOf t k) read (λ z. nr (eq ∙ z)))
+      no-link : s′ ≡ withWord s k 3 (waitsFor t k)
+      unfolding waitsFor
+      no-link = e ∙ rw (ne-eqb (kindOf t k) read (λ z. nr (eq ∙ z)), ne-eqb (kindOf t k) join nj)
 
       pub observed-write : q ≡ write → Stepped LastWrites 3 k (k + 1) s s′ (set last x k)
       unfolding withWrite
@@ -78,7 +87,7 @@ module _ {k : ℕ} {s list : List ℕ} (w : Turn Depths 4 k s list) (x : ℕ) (e
 
   -- what was read is the depth before the event
   is-depth : d ≡ depth t₄ (objectOf t₄ k) (before k)
-  is-depth = ed ∙ ap (λ (y : ℕ). getD list y 0) ex ∙ w .knows .is (objectOf t₄ k) (w .columns .good .object-limit k (w .valid))
+  is-depth = ed ∙ ap (λ (y : ℕ). getD list y 0) ex ∙ w .knows .is (objectOf t₄ k) (object-small (trace s) (w .columns .good) k (w .valid))
 
   -- it is the thread's own
   own-depth : (kindOf t₄ k ≡ acquire) ⊎ (kindOf t₄ k ≡ release) → d ≡ ownDepth t₄ k
@@ -173,7 +182,7 @@ module _ {k : ℕ} {s list : List ℕ} (w : Turn NextEnds 5 k s list) (x : ℕ) 
     released-outermost y e =
         let g = w .columns .good in
         let m = matching-next (trace s) (g .well-formed) k (w .valid) (sym eo ∙ y) in
-        record { set = e ∙ rw (sym eb ∙ nl, ex, w .knows .is (objectOf (trace s) k) (g .object-limit k (w .valid)), m); knows = knows-same }
+        record { set = e ∙ rw (sym eb ∙ nl, ex, w .knows .is (objectOf (trace s) k) (object-small (trace s) g k (w .valid)), m); knows = knows-same }
 
     pub released-other : {s′ : List ℕ} → o ≡ false → s′ ≡ withWord s k 5 0 → Stepped NextEnds 5 k (k - 1) s s′ list
     unfolding releaseOf
@@ -190,14 +199,21 @@ module _ {k : ℕ} {s : List ℕ} (p : Columns (trace s) 6 s) (v : Valid (trace 
   unfolding accessBegan
   began-write e = let d : kindOf (trace s) k ≡ write = sym eq ∙ e in rw (eq-eqb _ _ d)
 
-  pub began-read : (q ≡ write → ⊥) → (o : ℕ) → o ≡ word s k 3 → o ≡ accessBegan (trace s) k
-  unfolding accessBegan
-  began-read nw o eo = eo ∙ p .is 3 k (omega arith) v ∙ rw (ne-eqb (kindOf (trace s) k) write (λ z. nw (eq ∙ z)))
+  module _ (nw : q ≡ write → ⊥) where
+    pub began-read : q ≡ read → (o : ℕ) → o ≡ word s k 3 → o ≡ accessBegan (trace s) k
+    unfolding accessBegan
+    began-read r o eo =
+        let d : kindOf (trace s) k ≡ read = sym eq ∙ r in
+        eo ∙ p .is 3 k (omega arith) v ∙ reads-observed (trace s) k d ∙ rw (ne-eqb (kindOf (trace s) k) write (λ z. nw (eq ∙ z)), eq-eqb _ _ d)
+
+    pub began-none : (q ≡ read → ⊥) → 0 ≡ accessBegan (trace s) k
+    unfolding accessBegan
+    began-none nr = rw (ne-eqb (kindOf (trace s) k) write (λ z. nw (eq ∙ z)), ne-eqb (kindOf (trace s) k) read (λ z. nr (eq ∙ z)))
 
 -- ---- `put_began`
 
 access-is : (s : Trace) (k : ℕ) → isOutermost s k ≡ false → isLast s k ≡ false → accessBegan s k ≡ began s k
-unfolding began accessBegan observedBy
+unfolding began accessBegan
 access-is s k ni nl =
     by-cases (eqb (kindOf s k) write) (λ d. rw d) (λ d. by-cases (eqb (kindOf s k) read) (λ r. rw (d, r)) (λ r. rw (d, r, ni, nl)))
 
@@ -214,7 +230,7 @@ module _ {k : ℕ} {s list : List ℕ} (w : Turn LastTaken 6 k s list) where
         let r = last-releases (trace s) k i in
         let na = ne-eqb (kindOf (trace s) k) acquire (omega arith) in
         record {
-          set = e ∙ rw (ne-eqb (kindOf (trace s) k) write (omega arith), ne-eqb (kindOf (trace s) k) read (omega arith), na, i, ex, w .knows .is (objectOf (trace s) k) (g .object-limit k (w .valid)));
+          set = e ∙ rw (ne-eqb (kindOf (trace s) k) write (omega arith), ne-eqb (kindOf (trace s) k) read (omega arith), na, i, ex, w .knows .is (objectOf (trace s) k) (object-small (trace s) g k (w .valid)));
           knows = taken-same g (w .valid) (w .knows) (rw na);
         }
 
@@ -231,3 +247,16 @@ module _ {k : ℕ} {s list : List ℕ} (w : Turn LastTaken 6 k s list) where
 
       pub began-other : o ≡ false → (z : ℕ) → z ≡ accessBegan (trace s) k → s′ ≡ withWord s k 6 z → Stepped LastTaken 6 k (k + 1) s s′ list
       began-other n z ez e = record { set = e ∙ rw (ez, access-is (trace s) k (sym eo ∙ n) (sym eb ∙ nl)); knows = taken-same (w .columns .good) (w .valid) (w .knows) (sym eo ∙ n) }
+
+-- ---- `put_forked`
+
+module _ {k : ℕ} {s forks : List ℕ} (w : Turn Forks 7 k s forks) (c : ℕ) (ec : c ≡ threadOf (trace s) k) {s′ : List ℕ} (e : s′ ≡ withWord s k 7 (getD forks c 0)) (q : ℕ) (eq : q ≡ kindOf (trace s) k) where
+  linked : s′ ≡ withWord s k 7 (forkOf (trace s) k)
+  unfolding forkOf
+  linked = e ∙ rw (ec, w .knows .is (threadOf (trace s) k) (w .columns .good .thread-limit k (w .valid)))
+
+  pub forked-more : q ≡ fork → (x : ℕ) → x ≡ objectOf (trace s) k → x ≤ maxThread → Stepped Forks 7 k (k + 1) s s′ (set forks x k)
+  forked-more f x ex h = record { set = linked; knows = rw ex (forks-put (w .columns .good) (w .valid) (w .knows) (sym eq ∙ f) (rw ex at h)) }
+
+  pub forked-same : (q ≡ fork → ⊥) → Stepped Forks 7 k (k + 1) s s′ forks
+  forked-same ne = record { set = linked; knows = forks-same (w .columns .good) (w .valid) (w .knows) (λ z. ne (eq ∙ z)) }

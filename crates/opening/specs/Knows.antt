@@ -3,21 +3,29 @@ use Prim.Native.Nat.{ℕ}
 use mathlib.Core.Bool.{Bool, cond, _&&_}
 use mathlib.Core.List.{List}
 use lib.Dec.{eqb, ltb}
-use Rattle.model.specs.Trace.{Trace, write, kindOf, objectOf}
+use Rattle.model.specs.Trace.{Trace, read, write, kindOf, objectOf}
 use Rattle.model.specs.Lists.{before, numbers, nearest}
-use Rattle.model.specs.Observed.{lastWrite}
+use Rattle.model.specs.Observed.{observed, lastWrite}
 use Rattle.model.specs.Good.{maxThread, maxObject, depth}
 use Rattle.model.specs.Sections.{isLast}
-use Rattle.table.specs.Links.{lastOf, observedBy, lastTaken}
+use Rattle.table.specs.Links.{lastOf, lastBy, lastFork, lastTaken}
 use Rattle.table.specs.Entries.{Entries}
 
 -- before event k the list has every thread's last event so far; 0 where there is none
 abbrev pub LastEvents : Trace → ℕ → List ℕ → Type 0
 LastEvents t k list = Entries (lastOf t (before k)) maxThread list
 
+-- a list has every thread's last event
+abbrev pub Tails : Trace → List ℕ → Type 0
+Tails t list = Entries (lastBy t) maxThread list
+
 -- before event k, that is after the one before it, the list has every cell's last write so far; 0 where there is none
 abbrev pub LastWrites : Trace → ℕ → List ℕ → Type 0
 LastWrites t k list = Entries (λ x. lastWrite t x (before k)) maxObject list
+
+-- before event k the list has every thread's fork so far; 0 where there is none
+abbrev pub Forks : Trace → ℕ → List ℕ → Type 0
+Forks t k list = Entries (λ c. lastFork t c (before k)) maxThread list
 
 -- before event k the list has how deep each lock is held
 abbrev pub Depths : Trace → ℕ → List ℕ → Type 0
@@ -40,4 +48,4 @@ LastTaken t k list = Entries (λ x. lastTaken t x (before k)) maxObject list
 
 -- where the interval of an access begins: a write, or a read's observed write; 0 for every other event
 unfoldable pub accessBegan : Trace → ℕ → ℕ
-accessBegan t k = cond (eqb (kindOf t k) write) k (observedBy t k)
+accessBegan t k = cond (eqb (kindOf t k) write) k (cond (eqb (kindOf t k) read) (observed t k) 0)

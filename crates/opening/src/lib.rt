@@ -6,15 +6,16 @@ use limits::Refusal;
 use limits::Thread;
 ghost use mathlib.Core.Path.{_≡_};
 ghost use Prim.Native.Nat.{suc, _+_, _-_, _≤_, _<_};
-ghost use lib.ListN.{length};
-ghost use Rattle.model.specs.Trace.{Valid};
-ghost use Rattle.model.specs.Good.{Good};
+ghost use lib.ListN.{length, replicate};
+ghost use mathlib.Core.Logic.{_≢_};
+ghost use Rattle.model.specs.Trace.{Valid, join, kindOf};
+ghost use Rattle.model.specs.Good.{Good, maxThread};
 ghost use Rattle.model.specs.Sections.{isOutermost, isLast};
 ghost use Rattle.format.specs.Bytes.{traceIn};
 ghost use Rattle.judging.specs.Judged.{eventsOf, refusalOf};
 ghost use Rattle.table.specs.Table.{trace, column, room};
 ghost use Rattle.opening.specs.Filling.{Columns, Turn, Stepped, Filled, Built};
-ghost use Rattle.opening.specs.Knows.{LastEvents, LastWrites, Depths, NextEnds, LastTaken, accessBegan};
+ghost use Rattle.opening.specs.Knows.{LastEvents, Tails, LastWrites, Forks, Depths, NextEnds, LastTaken, accessBegan};
 ghost use Rattle.opening.specs.Opening.{Opens};
 
 // A refused file, or how many words its table has.
@@ -57,47 +58,64 @@ fn put_previous(table: &mut [u16], k: usize, last: &mut [u16; Thread::COUNT])
     last[thread] = k as u16;
 }
 
-// The event before each in its thread.
-fn add_previous(table: &mut [u16])
-    requires { ⌜ Columns (trace (now table)) 2 (now table) ⌝ }
-    ensures { λ _. ⌜ Columns (trace (now (table .entry))) 3 (now (table .exit)) ⌝ }
+// The event before each in its thread. The list is lent as of no event, and then has the last event of each thread.
+fn add_previous(table: &mut [u16], last: &mut [u16; Thread::COUNT])
+    requires { ⌜ Columns (trace (now table)) 2 (now table) × (now last ≡ replicate (maxThread + 1) 0) ⌝ }
+    ensures { λ _. ⌜ Columns (trace (now (table .entry))) 3 (now (table .exit)) × Tails (trace (now (table .entry))) (now (last .exit)) ⌝ }
 {
     let n = table::count(table);
-    let mut last = [0u16; Thread::COUNT];
     let mut k = 1;
     while k <= n {
-        put_previous(table, k, &mut last);
+        put_previous(table, k, last);
         k += 1;
     }
 }
 
-// A read is linked to the last write of its cell; a write is the last from then on.
+// An event that is no join: a read is linked to the last write of its cell; a write is the last from then on.
 fn put_observed(table: &mut [u16], k: usize, last: &mut [u16; Event::OBJECTS])
-    requires { ⌜ Turn LastWrites 3 k (now table) (now last) ⌝ }
+    requires { ⌜ Turn LastWrites 3 k (now table) (now last) × (kindOf (trace (now table)) k ≢ join) ⌝ }
     ensures { λ _. ⌜ Stepped LastWrites 3 k (k + 1) (now (table .entry)) (now (table .exit)) (now (last .exit)) ⌝ }
 {
     let cell = table::object_place(table, k);
     let kind = table::kind_at(table, k);
     if kind == Event::READ {
-        table::set_word(table, k, table::OBSERVED, last[cell]);
+        table::set_word(table, k, table::WAITS, last[cell]);
         return;
     }
-    table::set_word(table, k, table::OBSERVED, 0);
+    table::set_word(table, k, table::WAITS, 0);
     if kind == Event::WRITE {
         last[cell] = k as u16;
     }
 }
 
-// The observed write of each read.
-fn add_observed(table: &mut [u16])
-    requires { ⌜ Columns (trace (now table)) 3 (now table) ⌝ }
+// A join is linked to the last event of the joined thread.
+fn put_waits(
+    table: &mut [u16],
+    k: usize,
+    tails: &[u16; Thread::COUNT],
+    last: &mut [u16; Event::OBJECTS],
+)
+    requires { ⌜ Turn LastWrites 3 k (now table) (now last) × Tails (trace (now table)) (now tails) ⌝ }
+    ensures { λ _. ⌜ Stepped LastWrites 3 k (k + 1) (now (table .entry)) (now (table .exit)) (now (last .exit)) ⌝ }
+{
+    if table::kind_at(table, k) != Event::JOIN {
+        put_observed(table, k, last);
+        return;
+    }
+    let child = table::child_place(table, k);
+    table::set_word(table, k, table::WAITS, tails[child]);
+}
+
+// What each read and each join waits for, by the last event of each thread.
+fn add_waits(table: &mut [u16], tails: &[u16; Thread::COUNT])
+    requires { ⌜ Columns (trace (now table)) 3 (now table) × Tails (trace (now table)) (now tails) ⌝ }
     ensures { λ _. ⌜ Columns (trace (now (table .entry))) 4 (now (table .exit)) ⌝ }
 {
     let n = table::count(table);
     let mut last = [0u16; Event::OBJECTS];
     let mut k = 1;
     while k <= n {
-        put_observed(table, k, &mut last);
+        put_waits(table, k, tails, &mut last);
         k += 1;
     }
 }
@@ -195,10 +213,14 @@ fn access_began(table: &[u16], k: usize) -> u16
     requires { ⌜ Columns (trace (now table)) 6 (now table) × Valid (trace (now table)) k ⌝ }
     ensures { λ r. ⌜ r ≡ accessBegan (trace (now (table .entry))) k ⌝ }
 {
-    if table::kind_at(table, k) == Event::WRITE {
+    let kind = table::kind_at(table, k);
+    if kind == Event::WRITE {
         return k as u16;
     }
-    table::word(table, k, table::OBSERVED) as u16
+    if kind == Event::READ {
+        return table::word(table, k, table::WAITS) as u16;
+    }
+    0
 }
 
 // An outermost acquire begins a section, and is the last of its lock from then on; a last release is linked to the last one.
@@ -233,6 +255,35 @@ fn add_began(table: &mut [u16])
     }
 }
 
+// Event k is linked to the fork of its thread; a fork is that of the forked thread from then on.
+fn put_forked(table: &mut [u16], k: usize, forks: &mut [u16; Thread::COUNT])
+    requires { ⌜ Turn Forks 7 k (now table) (now forks) ⌝ }
+    ensures { λ _. ⌜ Stepped Forks 7 k (k + 1) (now (table .entry)) (now (table .exit)) (now (forks .exit)) ⌝ }
+{
+    let thread = table::thread_place(table, k);
+    if table::kind_at(table, k) == Event::FORK {
+        let child = table::child_place(table, k);
+        table::set_word(table, k, table::FORKED, forks[thread]);
+        forks[child] = k as u16;
+        return;
+    }
+    table::set_word(table, k, table::FORKED, forks[thread]);
+}
+
+// The fork of each event's thread.
+fn add_forked(table: &mut [u16])
+    requires { ⌜ Columns (trace (now table)) 7 (now table) ⌝ }
+    ensures { λ _. ⌜ Columns (trace (now (table .entry))) 8 (now (table .exit)) ⌝ }
+{
+    let n = table::count(table);
+    let mut forks = [0u16; Thread::COUNT];
+    let mut k = 1;
+    while k <= n {
+        put_forked(table, k, &mut forks);
+        k += 1;
+    }
+}
+
 // All columns, from the first on.
 fn fill(ev: &[u8], table: &mut [u16])
     requires { ⌜ Columns (traceIn (now ev)) 0 (now table) ⌝ }
@@ -240,11 +291,13 @@ fn fill(ev: &[u8], table: &mut [u16])
 {
     add_own(ev, table::OWN, table);
     add_own(ev, table::OBJECT, table);
-    add_previous(table);
-    add_observed(table);
+    let mut tails = [0u16; Thread::COUNT];
+    add_previous(table, &mut tails);
+    add_waits(table, &tails);
     add_depths(table);
     add_released(table);
     add_began(table);
+    add_forked(table);
 }
 
 // The table of a good trace, in the front of the lent area. Gives its length.

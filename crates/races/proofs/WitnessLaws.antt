@@ -3,21 +3,21 @@ use Prim.Native.Nat.{ℕ, suc, _+_, _-_, _≤_, _<_}
 use native.Mathlib.Omega.{arith}
 use native.Mathlib.Numerals.{add-one}
 use mathlib.Core.Path.{_≡_, refl, sym, _∙_, ap}
-use mathlib.Core.Logic.{_⊎_, inl, inr, ⊎-elim}
+use mathlib.Core.Logic.{_≢_, _⊎_, inl, inr, ⊎-elim}
 use mathlib.Core.Bool.{Bool, true, false, not}
 use mathlib.Core.List.{List, [], _∷_, _++_}
 use lib.ListN.{length, getD, set, take, drop, length-set, take-append-drop}
 use lib.Seq.{length-take-le, take-suc-set, drop-set-lt, take-all, take-suc, drop-drop}
 use borrow.Author.Tests.{not-true, not-false}
-use Rattle.model.specs.Trace.{Trace, Valid, threadOf}
+use Rattle.model.specs.Trace.{Trace, Valid, join, threadOf, kindOf}
 use Rattle.model.specs.Lists.{_∈_, inFront, own, only, just, allBut, pair}
 use Rattle.model.specs.Observed.{observed}
 use Rattle.model.specs.Good.{maxEvents, maxThread}
-use Rattle.model.specs.Cone.{InCone, brought, earlier, observes}
-use Rattle.model.specs.Race.{Apart}
+use Rattle.model.specs.Cone.{InCone, brought, precedes, observes}
+use Rattle.model.specs.Race.{Access, Apart}
 use Rattle.model.proofs.Tests.{by-cases, just-true, just-false, true-allBut, allBut-true}
 use Rattle.model.proofs.Lists.{mem-only, only-mem, increasing-keep, front-taken}
-use Rattle.model.proofs.Threads.{conflicting-apart}
+use Rattle.model.proofs.Threads.{for-pair, conflicting-apart}
 use Rattle.model.proofs.ConeEvents.{cone-valid}
 use Rattle.decision.specs.Rounds.{cone}
 use Rattle.decision.specs.Check.{isCorrect}
@@ -169,13 +169,14 @@ module _ (t : Trace) {tops : List ℕ} (c : Coned t tops) where
     moved-up = increasing-keep (λ k. just m (threadOf t k)) (cone t R) (cone-increasing t R);
     moved-earlier = λ j k n e.
         let y = mem-only t (just m) k (cone t R) n in
-        only-mem t (just m) (cone-in (brought (of-P k n) (earlier e))) (rw (e .thread) (y .1));
+        only-mem t (just m) (cone-in (brought (of-P k n) (precedes (inl e)))) (rw (e .thread) (y .1));
     others = λ k n. cone-valid t R valid (of-Q k n);
     others-thread = λ k n. allBut-true m (threadOf t k) (mem-only t (allBut m) k (cone t R) n .1);
     others-up = increasing-keep (λ k. allBut m (threadOf t k)) (cone t R) (cone-increasing t R);
     others-earlier = λ j k n e.
         let y = mem-only t (allBut m) k (cone t R) n in
-        only-mem t (allBut m) (cone-in (brought (of-Q k n) (earlier e))) (rw (e .thread) (y .1));
+        only-mem t (allBut m) (cone-in (brought (of-Q k n) (precedes (inl e)))) (rw (e .thread) (y .1));
+    awaited = λ j k n a. side m j (brought (⊎-elim (of-P k) (of-Q k) n) (precedes (inr a)));
     seen = λ k n r o. side m (observed t k) (brought (⊎-elim (of-P k) (of-Q k) n) (observes r refl o));
   }
     where
@@ -220,8 +221,14 @@ module _ {table list : List ℕ} (q : WitnessRoom table list) (a b : ℕ) (confl
   pub valid-a : Valid (trace table) a
   valid-a = conflicting-exactly (trace table) a b .0 conflicting .first
 
+  accesses : Access (trace table) a × Access (trace table) b
+  accesses = conflicting-exactly (trace table) a b .0 conflicting .accesses
+
+  no-join : (k : ℕ) → Access (trace table) k → kindOf (trace table) k ≢ join
+  no-join k x e = ⊎-elim (λ r. let n : ⊥ = omega arith in n) (λ w. let n : ⊥ = omega arith in n) x
+
   pub rooted : Rooted table (pair a b)
-  rooted = record { links = q .links; apart = apart }
+  rooted = record { links = q .links; apart = apart; no-join = for-pair (λ r. kindOf (trace table) r ≢ join) (no-join a (accesses .0)) (no-join b (accesses .1)) }
 
   module _ {tops : List ℕ} (x : Bool) (c : Told (trace table) (pair a b) tops x) where
     pub root-found : not x ≡ true → Shows (witness (trace table) a b) list list Absent

@@ -7,9 +7,9 @@ use Rattle.model.specs.Lists.{listed, just, allBut, threads}
 use Rattle.model.specs.Observed.{observed}
 use Rattle.model.specs.Sections.{ownDepth, isOutermost, isLast}
 use Rattle.model.specs.Cone.{givesBack, matching}
-use Rattle.decision.specs.Check.{sameList, isValid, isNext, isSeen, isFree, placeTests, placeFault, faultFrom, isCorrect}
-use Rattle.decision.specs.Refusals.{eventTests}
-use Rattle.decision.specs.Rounds.{isBrought, rounds, isEarlier, isRooted, isObserved, isExempt, isClosing, brings, cone}
+use Rattle.decision.specs.Check.{sameList, isValid, isNext, isSeen, isFree, isAwaited, isReady, placeTests, placeFault, faultFrom, isCorrect}
+use Rattle.decision.specs.Refusals.{isForked, isJoined, isBegun, isSelf, isSecond, eventTests}
+use Rattle.decision.specs.Rounds.{isBrought, rounds, isEarlier, isPreceding, isRooted, isObserved, isExempt, isClosing, brings, cone}
 use Rattle.decision.specs.Stairs.{isOpening, isAlike, isWithin, isOverwriting, isReadOver, isUnended, isBound, isKeptApart, isRising, isForced, raised, settled, leastStairs, climb, leastMerge}
 use Rattle.decision.specs.Decision.{shownFor, isAccess, isConflicting, conflictingPairs, races}
 use Rattle.format.specs.Readable.{isReadable}
@@ -29,8 +29,8 @@ qBytes =
 
 -- "events 8 threads 2", "race 1 8 witness 5 6 7" and "races 1"
 pub report-of-q : report qBytes ≡ eventsLine 8 2 ++ (raceLine 1 8 (5 ∷ 6 ∷ 7 ∷ []) ++ racesLine 1)
-unfolding does listed just allBut threads observed ownDepth isOutermost isLast givesBack matching sameList isValid isNext isSeen isFree placeTests placeFault faultFrom isCorrect eventTests eventRefusal refusalIn
-    isBrought rounds isEarlier isRooted isObserved isExempt isClosing brings cone isOpening isAlike isWithin isOverwriting isReadOver isUnended isBound isKeptApart isRising isForced raised settled leastStairs climb leastMerge
+unfolding does listed just allBut threads observed ownDepth isOutermost isLast givesBack matching sameList isValid isNext isSeen isFree isAwaited isReady placeTests placeFault faultFrom isCorrect isForked isJoined isBegun isSelf isSecond eventTests eventRefusal refusalIn
+    isBrought rounds isEarlier isPreceding isRooted isObserved isExempt isClosing brings cone isOpening isAlike isWithin isOverwriting isReadOver isUnended isBound isKeptApart isRising isForced raised settled leastStairs climb leastMerge
     shownFor isAccess isConflicting conflictingPairs races
     eventsFrom traceOf distance count start preamble isReadable eventPart events isMarked isPointed layoutRefusal fileRefusal
     decimal eventsLine raceHead raceLine racesLine report

@@ -9,14 +9,15 @@ use lib.ListN.{length, getD, take, length-append}
 use lib.Seq.{take-suc, take-all}
 use lib.Dec.{eqb}
 use borrow.Author.Tests.{eqb-true, eqb-false, ne-eqb}
-use Rattle.model.proofs.Tests.{by-cases}
-use Rattle.model.specs.Trace.{Event, Trace, Valid, noEvent, at, read, write, acquire}
+use Rattle.model.proofs.Tests.{by-cases, object-small}
+use Rattle.model.specs.Trace.{Event, Trace, Valid, noEvent, at}
 use Rattle.model.specs.Good.{Good}
 use Rattle.appending.specs.Decimal.{decimal, InDecimal}
 use Rattle.appending.proofs.DecimalLaws.{decimal-few, decimal-in}
 use Rattle.wording.specs.Lines.{noteWord, noteLine, kindWord, eventLine, isComment}
 use Rattle.composing.specs.Texts.{extend, lines, said}
 use Rattle.wording.proofs.FirstLaws.{first-rest, first-absent}
+use Rattle.wording.proofs.LineLaws.{each-word}
 use Rattle.showing.specs.Shown.{notesOf, linesWith, textFrom, textWith}
 use Rattle.showing.specs.Pieces.{noteByte, noteBytes, notesText, eventText, eventsText, lineBytes}
 use Rattle.showing.proofs.TextLaws.{Whole, text-append, lines-some}
@@ -37,10 +38,7 @@ decimal-whole : (n : ℕ) → Whole (decimal n)
 decimal-whole n = first-absent 10 (decimal n) (λ b m e. let h = decimal-in n .digits-only b m in omega arith)
 
 word-whole : (k : ℕ) → Whole (kindWord k)
-unfolding kindWord
-word-whole k =
-    by-cases (eqb k read) (λ p. rw p)
-    (λ p. by-cases (eqb k write) (λ q. rw (p, q)) (λ q. by-cases (eqb k acquire) (λ r. rw (p, q, r)) (λ r. rw (p, q, r))))
+word-whole = each-word Whole refl refl refl refl refl refl
 
 event-whole : (e : Event) → Whole (eventLine e)
 unfolding eventLine
@@ -140,10 +138,7 @@ events-next t (suc i) h g =
     rw (z, take-suc t i noEvent (omega arith), events-append (take i t) (getD t i noEvent ∷ []), events-one (getD t i noEvent))
 
 pub word-few : (k : ℕ) → length (kindWord k) ≤ 7
-unfolding kindWord
-word-few k =
-    by-cases (eqb k read) (λ p. rw p (omega arith))
-    (λ p. by-cases (eqb k write) (λ q. rw (p, q) (omega arith)) (λ q. by-cases (eqb k acquire) (λ r. rw (p, q, r) (omega arith)) (λ r. rw (p, q, r) (omega arith))))
+word-few = each-word (λ w. length w ≤ 7) (omega arith) (omega arith) (omega arith) (omega arith) (omega arith) (omega arith)
 
 event-few : (e : Event) → e .thread < 1000 → e .object < 100000 → length (eventText e) ≤ lineBytes
 unfolding eventText eventLine
@@ -160,7 +155,7 @@ module _ (t : Trace) (g : Good t) where
   events-few (suc i) h =
       let v : Valid t (suc i) = record { positive = omega arith; bounded = h } in
       let a = g .thread-limit (suc i) v in
-      let b = g .object-limit (suc i) v in
+      let b = object-small t g (suc i) v in
       let c = event-few (at t (suc i)) (omega arith) (omega arith) in
       let d = events-few i (omega arith) in
       let z : suc i - 1 ≡ i = omega arith in

@@ -9,6 +9,7 @@ use lib.Seq.{take-suc, take-all}
 use borrow.Author.Tests.{eq-eqb, ne-eqb}
 use mir.Syntax.{w8, w16}
 use mir.Val.{Fits}
+use Rattle.model.proofs.Tests.{object-small}
 use Rattle.model.specs.Trace.{threadOf, kindOf, objectOf}
 use Rattle.appending.specs.Decimal.{decimal, spaced}
 use Rattle.appending.specs.Appended.{Appends, AppendsShort}
@@ -74,9 +75,12 @@ module _ (k : ℕ) {at : ℕ} {out out′ : List ℕ} {r : ℕ} where
   pub kind-is : (j : ℕ) → k ≡ j → Appends (spacedKind j) at out out′ r → AppendsShort 8 (spacedKind k) at out out′ r
   kind-is j e a = record { appends = rw e a; short = let h = word-few j in let f = a .ends in omega arith }
 
-  pub kind-last : (k ≡ 1 → ⊥) → (k ≡ 2 → ⊥) → (k ≡ 3 → ⊥) → Appends (spacedKind 4) at out out′ r → AppendsShort 8 (spacedKind k) at out out′ r
+  pub kind-last : (k ≡ 1 → ⊥) → (k ≡ 2 → ⊥) → (k ≡ 3 → ⊥) → (k ≡ 4 → ⊥) → (k ≡ 5 → ⊥) → Appends (spacedKind 6) at out out′ r → AppendsShort 8 (spacedKind k) at out out′ r
   unfolding kindWord
-  kind-last n₁ n₂ n₃ a = record { appends = rw (ne-eqb k 1 n₁, ne-eqb k 2 n₂, ne-eqb k 3 n₃) a; short = let f = a .ends in omega arith }
+  kind-last n₁ n₂ n₃ n₄ n₅ a = record {
+    appends = rw (ne-eqb k 1 n₁, ne-eqb k 2 n₂, ne-eqb k 3 n₃, ne-eqb k 4 n₄, ne-eqb k 5 n₅) a;
+    short = let f = a .ends in omega arith;
+  }
 
 module _ (n : ℕ) (fits : Fits w8 n) (at : ℕ) (out : List ℕ) where
   pub thread-room : at + 3 ≤ length out → at + length (decimal n) ≤ length out
@@ -95,7 +99,7 @@ line-put c d x a b v w = record {
 
 module _ {ev : List ℕ} {k : ℕ} (g : GoodAt ev k) (x : ℕ) (is : x ≡ objectOf (traceIn ev) k) where
   pub object-fits : Fits w16 x
-  object-fits = let h = g .good .object-limit k (g .valid) in record { fits = omega arith }
+  object-fits = let h = object-small (traceIn ev) (g .good) k (g .valid) in record { fits = omega arith }
 
 pub event-put : (ev : List ℕ) (k c d x : ℕ) → c ≡ threadOf (traceIn ev) k → d ≡ kindOf (traceIn ev) k → x ≡ objectOf (traceIn ev) k → {at : ℕ} {out out′ : List ℕ} {r : ℕ}
     → AppendsShort lineBytes (eventText (record { thread = c; kind = d; object = x })) at out out′ r → AppendsShort lineBytes (eventTextAt ev k) at out out′ r

@@ -14,7 +14,7 @@ use Rattle.model.specs.Lists.{inFront}
 use Rattle.model.specs.Rows.{first, either}
 use Rattle.model.proofs.Lists.{front-taken}
 use Rattle.model.proofs.RowsExact.{both-quiet}
-use Rattle.model.proofs.Tests.{by-cases, in-cons}
+use Rattle.model.proofs.Tests.{by-cases, in-cons, object-small}
 use Rattle.limits.specs.Limits.{eventBytes}
 use Rattle.limits.specs.Refusals.{settled, refuses, answers}
 use Rattle.limits.specs.declared.Refusal.{Refusal}
@@ -57,7 +57,7 @@ in-range t g e m =
     let v : Valid t (suc (r .0)) = record { positive = omega arith; bounded = omega arith } in
     let k = g .kinds (suc (r .0)) v in
     let c = g .thread-limit (suc (r .0)) v in
-    let x = g .object-limit (suc (r .0)) v in
+    let x = object-small t g (suc (r .0)) v in
     let f : InRange (getD t (r .0) noEvent) = record { thread = omega arith; least = k .0; most = k .1; object = omega arith } in
     rw q at f
 

@@ -80,7 +80,13 @@ fn put_kind(out: &mut [u8], at: usize, kind: u8) -> usize
     if kind == Event::ACQUIRE {
         return put_word(out, at, b" acquire");
     }
-    put_word(out, at, b" release")
+    if kind == Event::RELEASE {
+        return put_word(out, at, b" release");
+    }
+    if kind == Event::FORK {
+        return put_word(out, at, b" fork");
+    }
+    put_word(out, at, b" join")
 }
 
 // An event's line.

@@ -11,7 +11,7 @@ use borrow.Author.Tests.{eqb-true, eqb-false}
 use Rattle.model.specs.Trace.{Trace, Valid, write, kindOf, objectOf}
 use Rattle.model.specs.Observed.{lastWrite}
 use Rattle.model.specs.Good.{Good, maxObject}
-use Rattle.model.proofs.Tests.{by-cases, true-does, false-does, not-on}
+use Rattle.model.proofs.Tests.{by-cases, true-does, false-does, not-on, object-small}
 use Rattle.table.specs.Entries.{Entries, withWrite}
 
 pub entries-new : (f : ℕ → ℕ) (n : ℕ) → ((x : ℕ) → f x ≡ 0) → Entries f n (replicate (n + 1) 0)
@@ -41,5 +41,5 @@ unfolding withWrite
 write-known t k h g v p =
     let x = objectOf t k in
     by-cases (eqb (kindOf t k) write)
-    (λ e. rw e (entries-put p (λ y. lastWrite t y (k ∷ h)) x k (g .object-limit k v) (rw (true-does t write x k (eqb-true _ _ e) refl)) (λ y ne. rw (not-on t write y k ne))))
+    (λ e. rw e (entries-put p (λ y. lastWrite t y (k ∷ h)) x k (object-small t g k v) (rw (true-does t write x k (eqb-true _ _ e) refl)) (λ y ne. rw (not-on t write y k ne))))
     (λ e. rw e (entries-same p (λ y. lastWrite t y (k ∷ h)) (λ y. rw (false-does t write y k (eqb-false _ _ e)))))

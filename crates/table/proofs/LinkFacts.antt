@@ -1,22 +1,25 @@
 -- What the links of an event say of the trace.
 use Prim.Native.Nat.{ℕ, zero, suc, _≤_, _<_}
 use native.Mathlib.Omega.{arith}
-use mathlib.Core.Path.{_≡_, refl}
-use mathlib.Core.Logic.{_≢_}
+use mathlib.Core.Path.{_≡_, refl, sym, _∙_}
+use mathlib.Core.Logic.{_≢_, _⊎_, inl, inr, ⊎-elim}
 use mathlib.Core.Bool.{Bool, true}
 use lib.ListN.{length}
-use lib.Dec.{eqb}
-use borrow.Author.Tests.{eqb-true, eqb-false, eq-eqb, ne-eqb, ltb-true}
-use Rattle.model.specs.Trace.{Trace, read, write, acquire, threadOf, kindOf, objectOf, does}
-use Rattle.model.specs.Lists.{upTo, before, numbers, nearest, just}
+use lib.Dec.{eqb, ltb}
+use borrow.Author.Tests.{eqb-true, eqb-false, eq-eqb, ne-eqb, ltb-true, ltb-false}
+use Rattle.model.specs.Trace.{Trace, Valid, read, write, acquire, fork, join, threadOf, kindOf, objectOf, does}
+use Rattle.model.specs.Lists.{_∈_, upTo, before, numbers, nearest, just}
 use Rattle.model.specs.Observed.{observed}
+use Rattle.model.specs.Good.{WellFormed, second}
+use Rattle.model.specs.Awaits.{Awaits, forked, joined}
 use Rattle.model.specs.Sections.{isOutermost, isLast}
 use Rattle.model.specs.Cone.{Earlier, givesBack, matching}
-use Rattle.model.proofs.Tests.{by-cases, clash, both, just-true, true-just}
-use Rattle.model.proofs.Lists.{nearest-mem, nearest-passes, mem-before}
+use Rattle.model.proofs.Tests.{by-cases, clash, both, just-true, true-just, does-true, true-does}
+use Rattle.model.proofs.Lists.{nearest-mem, nearest-passes, none-nearest, mem-before, before-mem, mem-upTo}
+use Rattle.model.proofs.AwaitsExact.{awaits-valid, awaits-before}
 use Rattle.model.proofs.SectionsExact.{outermost-acquires, last-releases}
 use Rattle.model.proofs.MatchingExact.{matching-valid}
-use Rattle.table.specs.Links.{previous, observedBy, releaseOf}
+use Rattle.table.specs.Links.{lastBy, previous, waitsFor, forkOf, releaseOf}
 
 -- ---- the nearest event
 
@@ -56,19 +59,99 @@ module _ (t : Trace) where
       let z = e .less in
       nearest-last (λ i. just (threadOf t (suc k)) (threadOf t i)) k j (e .first) (omega arith) (true-just (threadOf t (suc k)) (threadOf t j) (e .thread))
 
-  -- ---- the observed write of a read
+  -- ---- what a read or a join waits for
 
-  pub reads-observed : (k : ℕ) → kindOf t k ≡ read → observedBy t k ≡ observed t k
-  unfolding observedBy
+  pub reads-observed : (k : ℕ) → kindOf t k ≡ read → waitsFor t k ≡ observed t k
+  unfolding waitsFor
   reads-observed k e = rw (eq-eqb _ _ e)
 
-  pub observed-reads : (k : ℕ) → observedBy t k ≢ 0 → (kindOf t k ≡ read) × (observed t k ≡ observedBy t k)
-  unfolding observedBy
-  observed-reads k ne = by-cases (eqb (kindOf t k) read) (λ e. (eqb-true _ _ e, rw e)) (λ e. absurd (rw e at ne refl))
+  joins-last : (k : ℕ) → kindOf t k ≡ join → waitsFor t k ≡ lastBy t (objectOf t k)
+  unfolding waitsFor
+  joins-last k e = rw (ne-eqb (kindOf t k) read (omega arith), eq-eqb _ _ e)
 
-  pub observed-less : (k : ℕ) → 1 ≤ k → observedBy t k < k
-  unfolding observedBy observed
-  observed-less k h = by-cases (eqb (kindOf t k) read) (λ e. rw e (nearest-less (λ j. does t write (objectOf t k) j) k h)) (λ e. rw e h)
+  pub waits-nothing : (k : ℕ) → kindOf t k ≢ read → kindOf t k ≢ join → waitsFor t k ≡ 0
+  unfolding waitsFor
+  waits-nothing k r j = rw (ne-eqb (kindOf t k) read r, ne-eqb (kindOf t k) join j)
+
+  -- a join waits for an event of the joined thread
+  pub last-joined : (k : ℕ) → kindOf t k ≡ join → waitsFor t k ≢ 0 → Awaits t k (waitsFor t k)
+  last-joined k e ne =
+      let p : ℕ → Bool = λ j. just (objectOf t k) (threadOf t j) in
+      let q = joins-last k e in
+      let nz : nearest p (upTo (length t)) ≢ 0 = λ z. ne (q ∙ z) in
+      let x = mem-upTo (length t) (nearest p (upTo (length t))) (nearest-mem p (upTo (length t)) nz) in
+      rw q (joined e (record { positive = x .0; bounded = x .1 }) (just-true (objectOf t k) _ (nearest-passes p (upTo (length t)) nz)))
+
+  pub joined-thread : (k : ℕ) → kindOf t k ≡ join → waitsFor t k ≢ 0 → threadOf t (waitsFor t k) ≡ objectOf t k
+  joined-thread k e ne =
+      let p : ℕ → Bool = λ j. just (objectOf t k) (threadOf t j) in
+      let q = joins-last k e in
+      rw q (just-true (objectOf t k) _ (nearest-passes p (upTo (length t)) (λ z. ne (q ∙ z))))
+
+  -- and it is the last of those
+  pub joined-last : (k j : ℕ) → kindOf t k ≡ join → Valid t j → threadOf t j ≡ objectOf t k → j ≤ waitsFor t k
+  joined-last k j e v o =
+      let x = nearest-last (λ i. just (objectOf t k) (threadOf t i)) (length t) j (v .positive) (v .bounded) (true-just (objectOf t k) (threadOf t j) o) in
+      rw (joins-last k e) x
+
+  -- by cases: a read observed it, or a join waits for it
+  pub waits-cases : (k : ℕ) → waitsFor t k ≢ 0 → ((kindOf t k ≡ read) × (observed t k ≡ waitsFor t k)) ⊎ ((kindOf t k ≡ join) × Awaits t k (waitsFor t k))
+  waits-cases k ne =
+      by-cases (eqb (kindOf t k) read) (λ e. let r = eqb-true _ _ e in inl (r, sym (reads-observed k r))) (λ e.
+      by-cases (eqb (kindOf t k) join)
+      (λ d. let j = eqb-true _ _ d in inr (j, last-joined k j ne))
+      (λ d. absurd (ne (waits-nothing k (eqb-false _ _ e) (eqb-false _ _ d)))))
+
+  pub waits-less : WellFormed t → (k : ℕ) → Valid t k → waitsFor t k < k
+  unfolding observed
+  waits-less w k v =
+      by-cases (eqb (waitsFor t k) 0) (λ z. let e : waitsFor t k ≡ 0 = eqb-true _ _ z in let p = v .positive in omega arith) (λ z.
+      ⊎-elim
+      (λ r. let p = v .positive in rw (← (r .1)) (nearest-less (λ j. does t write (objectOf t k) j) k p))
+      (λ j. awaits-before t w k (waitsFor t k) v (j .1))
+      (waits-cases k (eqb-false _ _ z)))
+
+  -- ---- the fork of its thread
+
+  pub fork-on : (k : ℕ) → forkOf t k ≢ 0 → (kindOf t (forkOf t k) ≡ fork) × (objectOf t (forkOf t k) ≡ threadOf t k)
+  unfolding forkOf
+  fork-on k ne = does-true t fork (threadOf t k) _ (nearest-passes (λ j. does t fork (threadOf t k) j) (before k) ne)
+
+  pub fork-awaited : (k : ℕ) → forkOf t k ≢ 0 → Awaits t k (forkOf t k)
+  fork-awaited k ne = let d = fork-on k ne in forked (d .0) (d .1)
+
+  pub fork-less : (k : ℕ) → 1 ≤ k → forkOf t k < k
+  unfolding forkOf
+  fork-less k h = nearest-less (λ j. does t fork (threadOf t k) j) k h
+
+  -- it is the one fork of its thread
+  pub fork-only : WellFormed t → (k : ℕ) → Valid t k → (j : ℕ) → kindOf t j ≡ fork → objectOf t j ≡ threadOf t k → forkOf t k ≡ j
+  unfolding forkOf
+  fork-only w k v j f o =
+      let c = threadOf t k in
+      let p : ℕ → Bool = λ i. does t fork c i in
+      let u = awaits-valid t k j (forked f o) in
+      let lt = awaits-before t w k j v (forked f o) in
+      let n : j ∈ before k = before-mem k j (u .positive) lt in
+      let nz : nearest p (before k) ≢ 0 = λ z. none-nearest p (before k) (λ i m. mem-before k i m .0) z j n (true-does t fork c j f o) in
+      let i = nearest p (before k) in
+      let d = does-true t fork c i (nearest-passes p (before k) nz) in
+      let vi = awaits-valid t k i (forked (d .0) (d .1)) in
+      by-cases (eqb i j) (λ e. eqb-true _ _ e) (λ e.
+      let ne = eqb-false i j e in
+      by-cases (ltb i j)
+      (λ l. absurd (w .other-once j u (second (ltb-true i j l) (d .0) f (d .1 ∙ sym o))))
+      (λ l. let z = ltb-false i j l in absurd (w .other-once i vi (second {j = j} (omega arith) f (d .0) (o ∙ sym (d .1))))))
+
+  -- so the events of a thread have one
+  pub fork-same : WellFormed t → (j k : ℕ) → Valid t j → Valid t k → threadOf t j ≡ threadOf t k → forkOf t j ≡ forkOf t k
+  fork-same w j k u v e =
+      by-cases (eqb (forkOf t j) 0)
+      (λ z.
+      by-cases (eqb (forkOf t k) 0)
+      (λ y. eqb-true _ _ z ∙ sym (eqb-true _ _ y))
+      (λ y. let d = fork-on k (eqb-false _ _ y) in fork-only w j u (forkOf t k) (d .0) (d .1 ∙ sym e)))
+      (λ z. let d = fork-on j (eqb-false _ _ z) in sym (fork-only w k v (forkOf t j) (d .0) (d .1 ∙ e)))
 
   -- ---- where a section ends
 

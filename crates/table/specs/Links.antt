@@ -2,9 +2,10 @@
 use Prim.Native.Nat.{ℕ}
 use mathlib.Core.Bool.{cond, _&&_, _||_}
 use mathlib.Core.List.{List}
+use lib.ListN.{length}
 use lib.Dec.{eqb}
-use Rattle.model.specs.Trace.{Trace, read, write, acquire, release, threadOf, kindOf, objectOf}
-use Rattle.model.specs.Lists.{before, nearest, just}
+use Rattle.model.specs.Trace.{Trace, read, write, acquire, release, fork, join, threadOf, kindOf, objectOf, does}
+use Rattle.model.specs.Lists.{before, upTo, nearest, just}
 use Rattle.model.specs.Observed.{observed}
 use Rattle.model.specs.Sections.{ownDepth, isOutermost, isLast}
 use Rattle.model.specs.Cone.{matching}
@@ -17,9 +18,21 @@ lastOf t h c = nearest (λ j. just c (threadOf t j)) h
 unfoldable pub previous : Trace → ℕ → ℕ
 previous t k = lastOf t (before k) (threadOf t k)
 
--- the observed write of a read, 0 where it sees the start; 0 for every other event
-unfoldable pub observedBy : Trace → ℕ → ℕ
-observedBy t k = cond (eqb (kindOf t k) read) (observed t k) 0
+-- the last event of thread c; 0 where it has none
+abbrev pub lastBy : Trace → ℕ → ℕ
+lastBy t c = lastOf t (upTo (length t)) c
+
+-- what a read or a join waits for: the observed write, 0 where it sees the start; the last event of the joined thread, 0 where that has none; 0 for every other event
+unfoldable pub waitsFor : Trace → ℕ → ℕ
+waitsFor t k = cond (eqb (kindOf t k) read) (observed t k) (cond (eqb (kindOf t k) join) (lastBy t (objectOf t k)) 0)
+
+-- the last fork of thread c in a history; 0 where there is none
+abbrev pub lastFork : Trace → ℕ → List ℕ → ℕ
+lastFork t c h = nearest (λ j. does t fork c j) h
+
+-- the fork of its thread
+unfoldable pub forkOf : Trace → ℕ → ℕ
+forkOf t k = lastFork t (threadOf t k) (before k)
 
 -- how deep its thread holds its lock just before an acquire or release; 0 for every other event
 unfoldable pub lockDepth : Trace → ℕ → ℕ

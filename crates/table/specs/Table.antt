@@ -5,7 +5,7 @@ use mathlib.Core.List.{List, [], _∷_}
 use lib.ListN.{length, getD, set}
 use Rattle.model.specs.Trace.{Event, Trace, Valid, threadOf, kindOf, objectOf}
 use Rattle.model.specs.Good.{Good, maxEvents}
-use Rattle.table.specs.Links.{previous, observedBy, lockDepth, releaseOf, began}
+use Rattle.table.specs.Links.{previous, waitsFor, lockDepth, releaseOf, began, forkOf}
 
 -- the words of a row
 abbrev pub words : ℕ
@@ -39,10 +39,10 @@ abbrev pub ownWord : Trace → ℕ → ℕ
 ownWord t k = threadOf t k + 256 * kindOf t k
 
 abbrev pub columnList : List (Trace → ℕ → ℕ)
-columnList = ownWord ∷ objectOf ∷ previous ∷ observedBy ∷ lockDepth ∷ releaseOf ∷ began ∷ []
+columnList = ownWord ∷ objectOf ∷ previous ∷ waitsFor ∷ lockDepth ∷ releaseOf ∷ began ∷ forkOf ∷ []
 
 abbrev pub columns : ℕ
-columns = 7
+columns = 8
 
 abbrev pub column : ℕ → Trace → ℕ → ℕ
 column c = getD columnList c (λ t k. 0)

@@ -4,10 +4,10 @@ use limits::Recording;
 ghost use mathlib.Core.Path.{_≡_};
 ghost use Prim.Native.Nat.{_≤_, _<_};
 ghost use lib.ListN.{length};
-ghost use Rattle.model.specs.Trace.{Valid, threadOf, kindOf, objectOf, does};
+ghost use Rattle.model.specs.Trace.{Valid, fork, threadOf, kindOf, objectOf, does};
 ghost use Rattle.model.specs.Lists.{threads};
 ghost use Rattle.model.specs.Good.{Good, maxThread, maxObject};
-ghost use Rattle.table.specs.Links.{previous, observedBy, releaseOf, began};
+ghost use Rattle.table.specs.Links.{previous, waitsFor, releaseOf, began, forkOf};
 ghost use Rattle.decision.specs.Decision.{isConflicting};
 ghost use Rattle.table.specs.Conflicts.{Lower, accesses};
 ghost use Rattle.table.specs.Table.{words, word, trace, columns, column, Linked, Place, withWord};
@@ -26,8 +26,8 @@ pub const OBJECT: usize = 1;
 // The links: the event before it in its thread,
 pub const PREVIOUS: usize = 2;
 
-// its observed write,
-pub const OBSERVED: usize = 3;
+// what it waits for: its observed write, or the last event of the thread that it joins,
+pub const WAITS: usize = 3;
 
 // how deep its thread holds its lock before it,
 pub const DEPTH: usize = 4;
@@ -35,8 +35,11 @@ pub const DEPTH: usize = 4;
 // the end of its section,
 pub const RELEASED: usize = 5;
 
-// where its interval begins.
+// where its interval begins,
 pub const BEGAN: usize = 6;
+
+// the fork of its thread.
+pub const FORKED: usize = 7;
 
 // A word as a number to reckon with.
 pub fn wide(x: u16) -> usize
@@ -78,7 +81,7 @@ pub fn kind_at(table: &[u16], k: usize) -> u8
     (word(table, k, OWN) / 256) as u8
 }
 
-// The cell or lock of event k.
+// The object of event k: a cell, a lock, or the thread that is forked or joined.
 pub fn object_at(table: &[u16], k: usize) -> usize
     requires { ⌜ Valid (trace (now table)) k ⌝ }
     ensures { λ r. ⌜ r ≡ objectOf (trace (now (table .entry))) k ⌝ }
@@ -95,11 +98,20 @@ pub fn thread_place(table: &[u16], k: usize) -> usize
     thread_at(table, k) as usize
 }
 
-// The cell or lock of event k, as a place of a list by object.
+// The object of event k, as a place of a list by object.
 pub fn object_place(table: &[u16], k: usize) -> usize
     requires { ⌜ Good (trace (now table)) × Valid (trace (now table)) k ⌝ }
     ensures { λ r. ⌜ r ≡ objectOf (trace (now (table .entry))) k ⌝ }
     ensures { λ r. ⌜ r ≤ maxObject ⌝ }
+{
+    object_at(table, k)
+}
+
+// The thread that event k forks or joins, as a place of a list by thread.
+pub fn child_place(table: &[u16], k: usize) -> usize
+    requires { ⌜ Good (trace (now table)) × (Valid (trace (now table)) k × (fork ≤ kindOf (trace (now table)) k)) ⌝ }
+    ensures { λ r. ⌜ r ≡ objectOf (trace (now (table .entry))) k ⌝ }
+    ensures { λ r. ⌜ r ≤ maxThread ⌝ }
 {
     object_at(table, k)
 }
@@ -132,13 +144,13 @@ pub fn previous_at(table: &[u16], k: usize) -> usize
     column_at(table, k, PREVIOUS)
 }
 
-// The write that event k observes, where it is a read that sees one; 0 otherwise.
-pub fn observed_at(table: &[u16], k: usize) -> usize
+// What event k waits for: the observed write of a read, the last event of the thread that is joined; 0 where there is none.
+pub fn waits_at(table: &[u16], k: usize) -> usize
     requires { ⌜ Linked (now table) × Valid (trace (now table)) k ⌝ }
-    ensures { λ r. ⌜ r ≡ observedBy (trace (now (table .entry))) k ⌝ }
+    ensures { λ r. ⌜ r ≡ waitsFor (trace (now (table .entry))) k ⌝ }
     ensures { λ r. ⌜ r < 65536 ⌝ }
 {
-    column_at(table, k, OBSERVED)
+    column_at(table, k, WAITS)
 }
 
 // Where the section ends that event k begins or ends; 0 where there is none.
@@ -156,6 +168,15 @@ pub fn began_at(table: &[u16], k: usize) -> usize
     ensures { λ r. ⌜ r < 65536 ⌝ }
 {
     column_at(table, k, BEGAN)
+}
+
+// The fork of event k's thread; 0 where there is none.
+pub fn forked_at(table: &[u16], k: usize) -> usize
+    requires { ⌜ Linked (now table) × Valid (trace (now table)) k ⌝ }
+    ensures { λ r. ⌜ r ≡ forkOf (trace (now (table .entry))) k ⌝ }
+    ensures { λ r. ⌜ r < 65536 ⌝ }
+{
+    column_at(table, k, FORKED)
 }
 
 // Are events of these kinds accesses, at least one a write?

@@ -10,10 +10,10 @@ use lib.ListN.{length, take, drop, length-append}
 use lib.Seq.{take-at}
 use lib.Dec.{eqb}
 use Rattle.model.proofs.Tests.{by-cases, clash}
-use Rattle.model.specs.Trace.{Event, read, write, acquire, release}
+use Rattle.model.specs.Trace.{Event, read, write, acquire, release, fork, join}
 use Rattle.appending.specs.Decimal.{decimal, valueFrom, InDecimal}
 use Rattle.appending.proofs.DecimalLaws.{decimal-value, decimal-in}
-use Rattle.wording.specs.Lines.{readWord, writeWord, acquireWord, releaseWord, kindWord, noteLine, IsNote, eventLine, IsEvent, Reads, note, event, bad}
+use Rattle.wording.specs.Lines.{readWord, writeWord, acquireWord, releaseWord, forkWord, joinWord, kindWord, noteLine, IsNote, eventLine, IsEvent, Reads, note, event, bad}
 use Rattle.wording.specs.Parts.{SaysNote, firstAt, ReadsNumber, ReadsKind, kind, no-kind, IsAction, ReadsAction, action, no-action, ReadsEvent, is-event, no-event}
 use Rattle.wording.specs.declared.Line.{Line}
 use Rattle.wording.specs.declared.Line.the-variants.{Bad, Note, Event as EventOf}
@@ -25,38 +25,44 @@ use Rattle.wording.proofs.NumberLaws.{read-value, read-absent, decimal-
 
 -- ---- the words of the kinds
 
+-- what is so of the six words is so of each kind's
+pub each-word : (P : List ℕ → Type 0) → P readWord → P writeWord → P acquireWord → P releaseWord → P forkWord → P joinWord → (k : ℕ) → P (kindWord k)
+unfolding kindWord
+each-word P pr pw pa pe pf pj k =
+    by-cases (eqb k read) (λ a. rw a pr)
+    (λ a.
+    by-cases (eqb k write) (λ b. rw (a, b) pw)
+    (λ b.
+    by-cases (eqb k acquire) (λ c. rw (a, b, c) pa)
+    (λ c.
+    by-cases (eqb k release) (λ d. rw (a, b, c, d) pe)
+    (λ d.
+    by-cases (eqb k fork) (λ e. rw (a, b, c, d, e) pf) (λ e. rw (a, b, c, d, e) pj)))))
+
 -- the test of two slices says whether they are the same
 abbrev pub Same : Bool → List ℕ → List ℕ → Type 0
 Same b s t = (b ≡ true → s ≡ t) × (s ≡ t → b ≡ true)
 
-pub kind-is : (k : ℕ) (w : List ℕ) (a : Bool) → read ≤ k → k ≤ release → (a ≡ true → w ≡ kindWord k) → a ≡ true → ReadsKind w k
+pub kind-is : (k : ℕ) (w : List ℕ) (a : Bool) → read ≤ k → k ≤ join → (a ≡ true → w ≡ kindWord k) → a ≡ true → ReadsKind w k
 kind-is k w a least most f h = kind least most (f h)
 
-module _ (w : List ℕ) (a b c d : Bool) where
-  pub kind-other : Same a w readWord → a ≡ false → Same b w writeWord → b ≡ false → Same c w acquireWord → c ≡ false → Same d w releaseWord → d ≡ false → ReadsKind w 0
-  unfolding kindWord
-  kind-other f fa g gb h hc i id =
-      no-kind (λ k least most e.
-      by-cases (eqb k read) (λ p. clash (f .1 (rw p at e)) fa)
-      (λ p.
-      by-cases (eqb k write) (λ q. clash (g .1 (rw (p, q) at e)) gb)
-      (λ q.
-      by-cases (eqb k acquire) (λ r. clash (h .1 (rw (p, q, r) at e)) hc) (λ r. clash (i .1 (rw (p, q, r) at e)) id))))
+pub word-other : {w v : List ℕ} {a : Bool} → Same a w v → a ≡ false → w ≢ v
+word-other f n e = clash (f .1 e) n
 
-pub read-kind : {s : List ℕ} {k : ℕ} → ReadsKind s k → (k ≡ 0 → ⊥) → (read ≤ k) × (k ≤ release) × (s ≡ kindWord k)
+pub kind-other : (w : List ℕ) → w ≢ readWord → w ≢ writeWord → w ≢ acquireWord → w ≢ releaseWord → w ≢ forkWord → w ≢ joinWord → ReadsKind w 0
+kind-other w nr nw na ne nf nj = no-kind (λ k least most. each-word (λ v. w ≢ v) nr nw na ne nf nj k)
+
+pub read-kind : {s : List ℕ} {k : ℕ} → ReadsKind s k → (k ≡ 0 → ⊥) → (read ≤ k) × (k ≤ join) × (s ≡ kindWord k)
 read-kind (kind l m e) ne = (l, m, e)
 read-kind (no-kind f) ne = absurd (ne refl)
 
-pub read-no-kind : {s : List ℕ} {k : ℕ} → ReadsKind s k → k ≡ 0 → (j : ℕ) → read ≤ j → j ≤ release → s ≢ kindWord j
+pub read-no-kind : {s : List ℕ} {k : ℕ} → ReadsKind s k → k ≡ 0 → (j : ℕ) → read ≤ j → j ≤ join → s ≢ kindWord j
 read-no-kind (kind l m e) z = absurd (omega arith)
 read-no-kind (no-kind f) z = f
 
 -- no word has a space
 pub word-whole : (k : ℕ) → firstAt 32 (kindWord k) ≡ length (kindWord k)
-unfolding kindWord
-word-whole k =
-    by-cases (eqb k read) (λ p. rw p)
-    (λ p. by-cases (eqb k write) (λ q. rw (p, q)) (λ q. by-cases (eqb k acquire) (λ r. rw (p, q, r)) (λ r. rw (p, q, r))))
+word-whole = each-word (λ w. firstAt 32 w ≡ length w) refl refl refl refl refl refl
 
 -- ---- at the first space
 

@@ -1,39 +1,37 @@
 -- A line has one reading.
 use Prim.Native.Nat.{ℕ, _≤_}
-use native.Mathlib.Omega.{arith}
 use mathlib.Core.Path.{_≡_, refl, sym, _∙_, ap}
-use mathlib.Core.Bool.{cond}
+use mathlib.Core.Bool.{Bool}
 use mathlib.Core.List.{List, _∷_, _++_}
-use lib.ListN.{getD}
 use lib.Dec.{eqb}
-use borrow.Author.Tests.{eqb-true, eqb-false}
-use Rattle.model.specs.Trace.{Event, read, write, acquire, release}
-use Rattle.model.proofs.Tests.{by-cases}
+use borrow.Author.Tests.{eqb-true}
+use Rattle.model.specs.Trace.{Event, read, join}
+use Rattle.model.specs.Lists.{_∈_, upTo, keep, nearest}
+use Rattle.model.proofs.Lists.{mem-keep, upTo-mem}
 use Rattle.appending.specs.Decimal.{decimal}
 use Rattle.wording.specs.Lines.{kindWord, eventLine, InRange, Reads, note, event, bad}
+use Rattle.wording.specs.Reasons.{same}
 use Rattle.wording.specs.declared.Line.{Line}
 use Rattle.wording.specs.declared.Line.the-variants.{Event as EventOf}
 use Rattle.wording.proofs.NumberLaws.{decimal-whole}
 use Rattle.wording.proofs.LineLaws.{word-whole, space-one, same-number, event-no-note}
 
--- the kind of a word, by its third byte
+-- the kind of a word
 abbrev kindBy : List ℕ → ℕ
-kindBy w = cond (eqb (getD w 2 0) 97) read (cond (eqb (getD w 2 0) 105) write (cond (eqb (getD w 2 0) 113) acquire release))
+kindBy w = nearest (λ k. same w (kindWord k)) (upTo join)
 
-word-kind : (k : ℕ) → read ≤ k → k ≤ release → kindBy (kindWord k) ≡ k
-unfolding kindWord
+-- each kind is that of its own word, so no two have the same
+abbrev isBack : ℕ → Bool
+isBack k = eqb (kindBy (kindWord k)) k
+
+all-back : keep isBack (upTo join) ≡ upTo join
+unfolding kindWord same
+all-back = refl
+
+word-kind : (k : ℕ) → read ≤ k → k ≤ join → kindBy (kindWord k) ≡ k
 word-kind k l m =
-    by-cases (eqb k read) (λ p. rw p (sym (eqb-true k read p)))
-    (λ p.
-    by-cases (eqb k write) (λ q. rw (p, q) (sym (eqb-true k write q)))
-    (λ q.
-    by-cases (eqb k acquire) (λ r. rw (p, q, r) (sym (eqb-true k acquire r)))
-    (λ r.
-    let a = eqb-false k read p in
-    let b = eqb-false k write q in
-    let c = eqb-false k acquire r in
-    let e : release ≡ k = omega (arith, a, b, c) in
-    rw (p, q, r) e)))
+    let i : k ∈ keep isBack (upTo join) = rw all-back (upTo-mem join k l m) in
+    eqb-true (kindBy (kindWord k)) k (mem-keep isBack k (upTo join) i .1)
 
 -- an event line is that of one event
 pub event-one : (e f : Event) → InRange e → InRange f → eventLine e ≡ eventLine f → e ≡ f

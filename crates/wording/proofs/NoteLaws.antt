@@ -25,7 +25,7 @@ same-true [] (c ∷ t) e = absurd (false≢true e)
 same-true (b ∷ s) [] e = absurd (false≢true e)
 same-true (b ∷ s) (c ∷ t) e = let p = both (eqb b c) (same s t) e in let q = eqb-true b c (p .0) in let r = same-true s t (p .1) in cc
 
-same-self : (s : List ℕ) → same s s ≡ true
+pub same-self : (s : List ℕ) → same s s ≡ true
 unfolding same
 same-self [] = refl
 same-self (b ∷ s) = true-both (eq-eqb b b refl) (same-self s)

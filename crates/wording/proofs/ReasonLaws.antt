@@ -3,22 +3,23 @@ use Prim.Native.Nat.{ℕ, _+_, _-_, _≤_, _<_}
 use native.Mathlib.Omega.{arith}
 use native.Mathlib.Numerals.{add-one}
 use mathlib.Core.Path.{_≡_, sym, _∙_}
-use mathlib.Core.Logic.{⊎-elim}
-use mathlib.Core.Bool.{Bool, true, false, cond, not, _&&_, _||_, and-false}
+use mathlib.Core.Bool.{Bool, true, false, cond, not, _&&_, and-false}
 use mathlib.Core.List.{List}
 use lib.ListN.{length, getD, take, drop, length-drop, drop-of-length-le}
 use lib.Seq.{drop-cons, length-take-le}
 use lib.Dec.{eqb, ltb}
 use borrow.Author.Tests.{eq-eqb, ne-eqb, lt-ltb, le-ltb, le-leb, lt-leb, not-true, not-false}
-use Rattle.model.specs.Trace.{read, write, acquire, release}
-use Rattle.model.proofs.Tests.{by-cases, true-both, either-true, false-test}
-use Rattle.wording.specs.Lines.{readWord, writeWord, acquireWord, releaseWord, kindWord}
+use Rattle.model.specs.Trace.{read, join}
+use Rattle.model.specs.Lists.{upTo}
+use Rattle.model.proofs.Tests.{true-both, false-test}
+use Rattle.model.proofs.Lists.{any-mem, mem-any, mem-upTo, upTo-mem}
+use Rattle.wording.specs.Lines.{kindWord}
 use Rattle.wording.specs.Parts.{SaysNote, firstAt, ReadsKind}
 use Rattle.wording.specs.Reasons.{has, same, beginsNote, isNoteLine, isWord, beginsWord, isKindWord, allDigits, leadsZero, numberReason, actionReason, wordReason, noteReason, reasonOf}
 use Rattle.wording.specs.declared.Reason.{Reason}
 use Rattle.wording.specs.declared.Reason.the-variants.{Empty, CarriageReturn, Tab, LateNote, NoteByte, Words, Kind, NoNumber, LeadingZero, TooLarge}
 use Rattle.wording.proofs.FirstLaws.{from, from-drop}
-use Rattle.wording.proofs.NoteLaws.{same-true, says-is}
+use Rattle.wording.proofs.NoteLaws.{same-true, same-self, says-is}
 use Rattle.wording.proofs.LineLaws.{read-kind, read-no-kind}
 
 pub has-is : (s : List ℕ) (b i : ℕ) → i ≡ firstAt b s → ltb i (length s) ≡ has b s
@@ -26,24 +27,15 @@ has-is s b i e = rw e
 
 -- ---- a kind's word
 
-pub word-known : (k : ℕ) → isKindWord (kindWord k) ≡ true
-unfolding kindWord same
-word-known k =
-    by-cases (eqb k read) (λ p. rw p)
-    (λ p. by-cases (eqb k write) (λ q. rw (p, q)) (λ q. by-cases (eqb k acquire) (λ r. rw (p, q, r)) (λ r. rw (p, q, r))))
+pub word-known : (k : ℕ) → read ≤ k → k ≤ join → isKindWord (kindWord k) ≡ true
+word-known k least most = any-mem (λ j. same (kindWord k) (kindWord j)) (upTo-mem join k least most) (same-self (kindWord k))
 
 -- the kind of a word that is known
-pub known-word : (w : List ℕ) → isKindWord w ≡ true → (k : ℕ) × (read ≤ k) × (k ≤ release) × (w ≡ kindWord k)
-unfolding kindWord
+pub known-word : (w : List ℕ) → isKindWord w ≡ true → (k : ℕ) × (read ≤ k) × (k ≤ join) × (w ≡ kindWord k)
 known-word w e =
-    ⊎-elim (λ p. (read, omega arith, omega arith, same-true w readWord p))
-    (λ f.
-    ⊎-elim (λ p. (write, omega arith, omega arith, same-true w writeWord p))
-    (λ g.
-    ⊎-elim (λ p. (acquire, omega arith, omega arith, same-true w acquireWord p)) (λ p. (release, omega arith, omega arith, same-true w releaseWord p))
-    (either-true (same w acquireWord) (same w releaseWord) g))
-    (either-true (same w writeWord) (same w acquireWord || same w releaseWord) f))
-    (either-true (same w readWord) (same w writeWord || (same w acquireWord || same w releaseWord)) e)
+    let g = mem-any (λ k. same w (kindWord k)) (upTo join) e in
+    let r = mem-upTo join (g .0) (g .1) in
+    (g .0, r .0, r .1, same-true w (kindWord (g .0)) (g .2))
 
 -- ---- digits
 
@@ -148,7 +140,8 @@ module _ (x s : List ℕ) (i : ℕ) (at-space : i ≡ firstAt 32 s) where
 
       pub action-numbers : (k ≡ 0 → ⊥) → (v : Reason) → v ≡ numberReason x (from (i + 1) s) → v ≡ actionReason x s
       action-numbers nk v ev =
-          let e : isKindWord (take i s) ≡ true = rw (read-kind r nk .2) (word-known k) in
+          let g = read-kind r nk in
+          let e : isKindWord (take i s) ≡ true = rw (g .2) (word-known k (g .0) (g .1)) in
           ev ∙ sym (action-is ∙ rw (both-there, e))
 
 module _ (line : List ℕ) (i : ℕ) (at-space : i ≡ firstAt 32 line) where

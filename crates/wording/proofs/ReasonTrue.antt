@@ -8,7 +8,7 @@ use mathlib.Core.List.{List, [], _∷_, _++_, List·Memᴰ, List·Memᴰ·head, 
 use lib.ListN.{length, getD, drop}
 use lib.Dec.{eqb, ltb, leb}
 use borrow.Author.Tests.{eq-eqb, ne-eqb, eqb-true, eqb-false, lt-ltb, le-ltb, ltb-true, ltb-false, leb-true, leb-false, le-leb, not-true}
-use Rattle.model.specs.Trace.{Event, read, release}
+use Rattle.model.specs.Trace.{Event, read, join}
 use Rattle.model.proofs.Tests.{by-cases, in-cons, both, true-both, either-true, clash, test-false}
 use Rattle.format.specs.Readable.{lineFeed, lowestByte, highestByte, isReadableByte, isReadable}
 use Rattle.appending.specs.Decimal.{decimal, valueFrom}
@@ -149,7 +149,7 @@ in-decimal s n d e = decimal-exactly (valueFrom 0 s) s .0 (record { value = refl
 
 module _ {line x y z : List ℕ} (t : ThreeWords line x y z) where
   -- numbers of the right size are those of an event
-  event-there : (k : ℕ) → read ≤ k → k ≤ release → y ≡ kindWord k → x ≡ decimal (valueFrom 0 x) → valueFrom 0 x ≤ 255 → z ≡ decimal (valueFrom 0 z) → valueFrom 0 z ≤ 65535
+  event-there : (k : ℕ) → read ≤ k → k ≤ join → y ≡ kindWord k → x ≡ decimal (valueFrom 0 x) → valueFrom 0 x ≤ 255 → z ≡ decimal (valueFrom 0 z) → valueFrom 0 z ≤ 65535
       → (e : Event) × IsEvent line e
   unfolding eventLine
   event-there k least most ey ex hx ez hz = (
@@ -195,7 +195,7 @@ module _ (line : List ℕ) (none : (e : Event) → ¬ IsEvent line e) where
       let t = three-true line p q in
       by-cases (isKindWord (wordOf (restOf line)))
       (λ k. rw (p, q, k) (number-tells t none k))
-      (λ k. rw (p, q, k) (kind t (λ j l m e. clash (rw e (word-known j)) k))))
+      (λ k. rw (p, q, k) (kind t (λ j l m e. clash (rw e (word-known j l m)) k))))
       (λ q. rw (p, q) (words (λ x y z t. clash (true-three t .1) q))))
       (λ p. rw p (words (λ x y z t. clash (true-three t .0) p)))
 

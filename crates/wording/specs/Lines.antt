@@ -4,7 +4,7 @@ use mathlib.Core.Path.{_≡_}
 use mathlib.Core.Bool.{Bool, false, cond}
 use mathlib.Core.List.{List, [], _∷_, _++_}
 use lib.Dec.{eqb}
-use Rattle.model.specs.Trace.{Event, read, write, acquire, release}
+use Rattle.model.specs.Trace.{Event, read, write, acquire, release, fork, join}
 use Rattle.format.specs.Readable.{Readable}
 use Rattle.appending.specs.Decimal.{decimal}
 use Rattle.wording.specs.declared.Line.{Line}
@@ -32,9 +32,22 @@ acquireWord = 97 ∷ 99 ∷ 113 ∷ 117 ∷ 105 ∷ 114 ∷ 101 ∷ []
 abbrev pub releaseWord : List ℕ
 releaseWord = 114 ∷ 101 ∷ 108 ∷ 101 ∷ 97 ∷ 115 ∷ 101 ∷ []
 
+-- "fork"
+abbrev pub forkWord : List ℕ
+forkWord = 102 ∷ 111 ∷ 114 ∷ 107 ∷ []
+
+-- "join"
+abbrev pub joinWord : List ℕ
+joinWord = 106 ∷ 111 ∷ 105 ∷ 110 ∷ []
+
 -- the word of a kind
 unfoldable pub kindWord : ℕ → List ℕ
-kindWord k = cond (eqb k read) readWord (cond (eqb k write) writeWord (cond (eqb k acquire) acquireWord releaseWord))
+kindWord k =
+    cond (eqb k read) readWord
+    (cond (eqb k write) writeWord
+    (cond (eqb k acquire) acquireWord
+    (cond (eqb k release) releaseWord
+    (cond (eqb k fork) forkWord joinWord))))
 
 -- ---- note lines
 
@@ -58,7 +71,7 @@ eventLine e = decimal (e .thread) ++ (32 ∷ (kindWord (e .kind) ++ (32 ∷ deci
 pub record InRange (e : Event) : Type 0 where
   pub thread : e .thread < 256
   pub least : read ≤ e .kind
-  pub most : e .kind ≤ release
+  pub most : e .kind ≤ join
   pub object : e .object < 65536
 
 -- the line of such an event

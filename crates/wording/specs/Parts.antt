@@ -5,7 +5,7 @@ use mathlib.Core.Logic.{_≢_}
 use mathlib.Core.Bool.{Bool, true, false, cond}
 use mathlib.Core.List.{List, [], _∷_, _++_}
 use lib.Dec.{eqb, ltb}
-use Rattle.model.specs.Trace.{Event, read, release}
+use Rattle.model.specs.Trace.{Event, read, join}
 use Rattle.appending.specs.Decimal.{decimal}
 use Rattle.wording.specs.Lines.{kindWord, IsNote, IsEvent}
 use Rattle.wording.specs.declared.Line.{Line}
@@ -39,13 +39,13 @@ pub data ReadsNumber (s : List ℕ) : Number → Type 0 where
 
 -- the word of this kind, or 0 for no kind's
 pub data ReadsKind (s : List ℕ) : ℕ → Type 0 where
-  kind : {k : ℕ} → read ≤ k → k ≤ release → s ≡ kindWord k → ReadsKind s k
-  no-kind : ((k : ℕ) → read ≤ k → k ≤ release → s ≢ kindWord k) → ReadsKind s 0
+  kind : {k : ℕ} → read ≤ k → k ≤ join → s ≡ kindWord k → ReadsKind s k
+  no-kind : ((k : ℕ) → read ≤ k → k ≤ join → s ≢ kindWord k) → ReadsKind s 0
 
 -- an event line from its kind on
 pub record IsAction (s : List ℕ) (k o : ℕ) : Type 0 where
   pub least : read ≤ k
-  pub most : k ≤ release
+  pub most : k ≤ join
   pub object-fits : o < 65536
   pub these : s ≡ kindWord k ++ (32 ∷ decimal o)
 

@@ -6,10 +6,11 @@ use mathlib.Core.Bool.{Bool, true, false, cond, not, _&&_, _||_}
 use mathlib.Core.List.{List, [], _∷_, _++_, List·Memᴰ}
 use lib.ListN.{length, getD, take, drop}
 use lib.Dec.{eqb, ltb, leb}
-use Rattle.model.specs.Trace.{read, release}
+use Rattle.model.specs.Trace.{read, join}
+use Rattle.model.specs.Lists.{upTo, anyIn}
 use Rattle.format.specs.Readable.{lowestByte, highestByte, isReadable}
 use Rattle.appending.specs.Decimal.{valueFrom}
-use Rattle.wording.specs.Lines.{noteWord, readWord, writeWord, acquireWord, releaseWord, kindWord, noteLine, IsNote}
+use Rattle.wording.specs.Lines.{noteWord, kindWord, noteLine, IsNote}
 use Rattle.wording.specs.Parts.{firstAt}
 use Rattle.wording.specs.declared.Reason.{Reason}
 use Rattle.wording.specs.declared.Reason.the-variants.{Empty, CarriageReturn, Tab, LateNote, NoteByte, Words, Kind, NoNumber, LeadingZero, TooLarge}
@@ -56,9 +57,9 @@ beginsWord s = has 32 s && not (isEmpty (wordOf s))
 abbrev pub areTwo : List ℕ → Bool
 areTwo s = beginsWord s && isWord (restOf s)
 
--- is it the word of a kind?
+-- is it the word of a kind? The kinds are the numbers from 1 to the last
 abbrev pub isKindWord : List ℕ → Bool
-isKindWord w = same w readWord || (same w writeWord || (same w acquireWord || same w releaseWord))
+isKindWord w = anyIn (λ k. same w (kindWord k)) (upTo join)
 
 -- is it a digit, and digits alone?
 abbrev pub isDigit : ℕ → Bool
@@ -126,7 +127,7 @@ pub data Tells (line : List ℕ) : Reason → Type 0 where
   late-note : IsNote line → Tells line LateNote
   note-byte : {text : List ℕ} {b : ℕ} → line ≡ noteLine text → List·Memᴰ b text → (b < lowestByte) ⊎ (highestByte < b) → Tells line NoteByte
   words : ((x y z : List ℕ) → ¬ ThreeWords line x y z) → Tells line Words
-  kind : {x y z : List ℕ} → ThreeWords line x y z → ((k : ℕ) → read ≤ k → k ≤ release → y ≢ kindWord k) → Tells line Kind
+  kind : {x y z : List ℕ} → ThreeWords line x y z → ((k : ℕ) → read ≤ k → k ≤ join → y ≢ kindWord k) → Tells line Kind
   no-number : {x y z : List ℕ} → ThreeWords line x y z → (¬ Digits x) ⊎ (¬ Digits z) → Tells line NoNumber
   leading-zero : {x y z : List ℕ} → ThreeWords line x y z → LeadsZero x ⊎ LeadsZero z → Tells line LeadingZero
   too-large : {x y z : List ℕ} → ThreeWords line x y z → Digits x → Digits z → (255 < valueFrom 0 x) ⊎ (65535 < valueFrom 0 z) → Tells line TooLarge

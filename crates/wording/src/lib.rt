@@ -134,6 +134,12 @@ fn read_kind(word: &[u8]) -> u8
     if check::same(word, b"release") {
         return Event::RELEASE;
     }
+    if check::same(word, b"fork") {
+        return Event::FORK;
+    }
+    if check::same(word, b"join") {
+        return Event::JOIN;
+    }
     0
 }
 

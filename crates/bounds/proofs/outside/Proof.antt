@@ -1,5 +1,5 @@
 use borrow.Author.Needs.{needs}
-use Rattle.bounds.proofs.FirstLaws.{observed-few, outside-no-read, outside-read}
+use Rattle.bounds.proofs.FirstLaws.{waits-few, outside-no-read, outside-read}
 use Rattle.bounds.proofs.outside.Statement.{statement}
 use Rattle.bounds.proofs.outside.Tie as tie
 
@@ -8,4 +8,4 @@ outside-spec =
     tie.close
     (tie.spec
     (λ c κs. search needs) (λ c. search (outside-no-read, needs))
-    (λ c κs. search needs) (λ c κs. search (observed-few, needs)) (λ c. search (outside-read, needs)))
+    (λ c κs. search needs) (λ c κs. search (waits-few, needs)) (λ c. search (outside-read, needs)))

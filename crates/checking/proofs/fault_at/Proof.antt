@@ -1,5 +1,5 @@
 use borrow.Author.Needs.{needs}
-use Rattle.checking.proofs.PassLaws.{number-low, number-high, number-valid, not-next, access}
+use Rattle.checking.proofs.PassLaws.{number-low, number-high, number-valid, not-next, access-found, not-ready, no-fault}
 use Rattle.checking.proofs.fault_at.Statement.{statement}
 use Rattle.checking.proofs.fault_at.Tie as tie
 
@@ -13,4 +13,7 @@ fault-at-spec =
     (λ c κs. search (number-valid, needs))
     (λ c. search (not-next, number-valid, needs))
     (λ c κs. search (number-valid, needs))
-    (λ c. search (access, needs)))
+    (λ c. search (access-found, number-valid, needs))
+    (λ c κs. search (number-valid, needs))
+    (λ c. search (not-ready, number-valid, needs))
+    (λ c. search (no-fault, number-valid, needs)))

@@ -1,5 +1,6 @@
 use borrow.Author.Needs.{needs}
-use Rattle.cone.proofs.FollowLaws.{caught-not, caught-raising, caught-within, caught}
+use Rattle.cone.proofs.RaiseLaws.{stops, goes}
+use Rattle.cone.proofs.FollowLaws.{caught-not, caught-raising, caught-within, caught-valid, caught-forked, caught}
 use Rattle.cone.proofs.catch_up.Statement.{statement}
 use Rattle.cone.proofs.catch_up.Tie as tie
 
@@ -14,5 +15,8 @@ catch-up-spec =
     (λ c. search needs)
     (λ c. search needs)
     (λ c. search needs)
-    (λ c κs. search (caught-raising, caught-within, needs))
+    (λ c κs. search (caught-valid, needs))
+    (λ c κs. search (caught-raising, caught-forked, needs))
+    (λ c. search (stops, needs))
+    (λ c κs. let f = goes (c .before .before .raise .ensures) (c .before .if2 .left) in search (caught-within, needs))
     (λ c. search (caught, needs)))

@@ -2,16 +2,16 @@ use mathlib.Core.Logic.{⊎-elim}
 use Prim.Native.Nat.{_+_, _-_}
 use borrow.Author.Needs.{needs}
 use Rattle.format.specs.Bytes.{traceIn}
-use Rattle.judging.proofs.WalkLaws.{Judging, judging-start, judging-valid, judging-ready, judging-pass, judging-object, judging-offset, judging-hold}
+use Rattle.judging.proofs.WalkLaws.{Judging, judging-start, judging-valid, judging-ready, judging-pass, judging-object, judging-offset, judging-hold, pass-limits, hold-limits}
 use Rattle.judging.proofs.FileLaws.{few-events, events-refused, events-good}
 use Rattle.judging.proofs.judge_events.Statement.{statement}
 use Rattle.judging.proofs.judge_events.Tie as tie
 
 abbrev Inv-loop : tie.InvT-loop
-Inv-loop file t ev n locks₀ k₀ locks k = Judging (traceIn ev) n k locks
+Inv-loop file t ev n locks₀ threads₀ k₀ locks threads k = Judging (traceIn ev) n k locks threads
 
 abbrev μ-loop : tie.MeasureT-loop
-μ-loop file t ev n locks₀ k₀ locks k = n + 1 - k
+μ-loop file t ev n locks₀ threads₀ k₀ locks threads k = n + 1 - k
 
 pub judge-events-spec : {M : Type 1} → statement M
 judge-events-spec =
@@ -32,7 +32,8 @@ judge-events-spec =
     (λ c. search (judging-object, needs))
     (λ c. search needs)
     (λ c. search (events-refused, needs))
+    (λ c κs. (search (judging-valid, needs), search needs, ⊎-elim (λ w. search (pass-limits, needs)) (λ w. search (hold-limits, needs)) (c .match .came)))
     (λ c. search needs)
     (λ c. search needs)
-    (λ c. ⊎-elim (λ w. search (judging-pass, needs)) (λ w. search (judging-hold, needs)) (c .match .came))
+    (λ c. ⊎-elim (λ w. search (judging-pass, needs)) (λ w. search (judging-hold, needs)) (c .before .match .came))
     (λ c. search (events-good, needs)))
