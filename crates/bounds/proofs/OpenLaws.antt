@@ -22,7 +22,7 @@ use Rattle.model.proofs.MatchingExact.{matching-valid}
 use Rattle.decision.specs.Check.{isAwaited}
 use Rattle.decision.specs.Rounds.{isObserved}
 use Rattle.decision.specs.Stairs.{isOpening, isAlike, isWithin, isOverwriting, isReadOver, isUnended, isBound}
-use Rattle.decision.proofs.Holds.{matching-ends}
+use Rattle.model.proofs.MatchingExact.{matching-ends}
 use Rattle.decision.proofs.IntervalTests.{alike-true, true-alike, true-opening}
 use Rattle.stairs.specs.Stairs.{at}
 use Rattle.table.specs.Table.{trace, Linked}

@@ -18,7 +18,7 @@ use Rattle.model.proofs.Lists.{mem-listed, listed-mem, mem-only, only-mem}
 use Rattle.model.proofs.ObservedExact.{observed-write-exactly, observed-start-exactly}
 use Rattle.model.proofs.ConeEvents.{cone-valid}
 use Rattle.decision.proofs.ConeExact.{cone-exactly}
-use Rattle.decision.proofs.Holds.{Ends, matching-ends}
+use Rattle.model.proofs.MatchingExact.{Ends, matching-ends}
 use Rattle.decision.proofs.Solutions.{Closed, Open, Rival, Part}
 
 -- a read is no write

@@ -19,10 +19,11 @@ use Rattle.model.proofs.Tests.{by-cases, in-cons, true-does}
 use Rattle.model.proofs.Lists.{nearest-passes, mem-own, own-mem, mem-upTo, upTo-mem, none-nearest}
 use Rattle.model.proofs.Histories.{Legal, legal-valid, beginning, enabled-by, lastWrite-mem}
 use Rattle.model.proofs.Locks.{locked, locked-upTo}
+use Rattle.model.proofs.MatchingExact.{matching-ends}
 use Rattle.model.proofs.ObservedExact.{observed-write-exactly}
 use Rattle.model.proofs.ConeEvents.{cone-valid}
 use Rattle.decision.proofs.Solutions.{Rival}
-use Rattle.decision.proofs.Holds.{matching-ends, same-holder, depths, holding, holding-on}
+use Rattle.decision.proofs.Holds.{same-holder, depths, holding, holding-on}
 use Rattle.decision.proofs.InOrder.{Down, nearest-top}
 
 -- the rules, of an order F

@@ -4,43 +4,24 @@ use native.Mathlib.Omega.{arith}
 use native.Mathlib.Nat.{suc-inj}
 use mathlib.Core.Path.{_≡_, refl, sym, _∙_, ap}
 use mathlib.Core.Logic.{_≢_, inl, ⊎-elim}
-use mathlib.Core.Bool.{true, _&&_}
+use mathlib.Core.Bool.{true}
 use mathlib.Core.List.{List, reverse, reverse-reverse}
 use lib.ListN.{length}
-use lib.Dec.{eqb, leb, ltb}
-use borrow.Author.Tests.{eqb-true, eqb-false, eq-eqb, leb-true, leb-false, ltb-true}
+use lib.Dec.{eqb, leb}
+use borrow.Author.Tests.{eqb-true, eqb-false, eq-eqb, leb-true, leb-false}
 use Rattle.model.specs.Trace.{Trace, Valid, acquire, release, threadOf, kindOf, objectOf, does}
-use Rattle.model.specs.Lists.{_∈_, upTo, numbers, nearest, listed, own, just}
+use Rattle.model.specs.Lists.{_∈_, upTo, listed, own, just}
 use Rattle.model.specs.Good.{depth, holder, WellFormed}
 use Rattle.model.specs.Reordering.{Step}
-use Rattle.model.specs.Sections.{ownDepth, isOutermost, isLast, OwnDepths}
-use Rattle.model.specs.Cone.{givesBack, matching}
+use Rattle.model.specs.Sections.{ownDepth, isOutermost, OwnDepths}
+use Rattle.model.specs.Cone.{matching}
 use Rattle.model.specs.Matching.{HeldUntil, HoldEnd, freed, never-freed}
 use Rattle.model.proofs.Tests.{by-cases, both, clash, true-both, does-true, true-just}
-use Rattle.model.proofs.Lists.{nearest-passes, mem-own, own-mem, mem-upTo, upTo-mem, mem-listed, listed-mem}
+use Rattle.model.proofs.Lists.{mem-own, own-mem, mem-upTo, upTo-mem, mem-listed, listed-mem}
 use Rattle.model.proofs.Histories.{Legal, of-legal, legal-valid, beginning}
 use Rattle.model.proofs.Locks.{Locked, nobody, lock-only, held-part, locked, locked-upTo, locked-before}
 use Rattle.model.proofs.SectionsExact.{outermost-acquires, own-depths-agree, own-depth-lock}
-use Rattle.model.proofs.MatchingExact.{matching-inner, matching-exactly}
-
--- the matching release is later, and by the same thread
-pub record Ends (t : Trace) (a r : ℕ) : Type 0 where
-  pub later : a < r
-  pub thread : threadOf t r ≡ threadOf t a
-
-pub matching-ends : (t : Trace) (a : ℕ) → matching t a ≢ 0 → Ends t a (matching t a)
-unfolding matching givesBack
-matching-ends t a ne =
-    by-cases (isOutermost t a)
-    (λ o.
-    let r = nearest (λ j. givesBack t a j) (numbers t) in
-    let e : matching t a ≡ r = rw o in
-    let g : givesBack t a r ≡ true = nearest-passes (λ j. givesBack t a j) (numbers t) (λ z. ne (e ∙ z)) in
-    let p = both (ltb a r) (isLast t r && (eqb (objectOf t r) (objectOf t a) && eqb (threadOf t r) (threadOf t a))) g in
-    let q = both (isLast t r) (eqb (objectOf t r) (objectOf t a) && eqb (threadOf t r) (threadOf t a)) (p .1) in
-    let s = both (eqb (objectOf t r) (objectOf t a)) (eqb (threadOf t r) (threadOf t a)) (q .1) in
-    rw e (record { later = ltb-true a r (p .0); thread = eqb-true _ _ (s .1) }))
-    (λ o. absurd (ne (matching-inner t a o)))
+use Rattle.model.proofs.MatchingExact.{matching-ends, matching-exactly}
 
 -- who holds a lock is known from the thread's own events
 pub same-holder : (t : Trace) (c x : ℕ) (h g : List ℕ) → Locked t h → Locked t g → own t c h ≡ own t c g → holder t x h ≡ suc c → holder t x g ≡ suc c

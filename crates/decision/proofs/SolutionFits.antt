@@ -16,8 +16,9 @@ use Rattle.model.specs.Sections.{isOutermost}
 use Rattle.model.specs.Cone.{InCone, brought, precedes, observes, matching}
 use Rattle.model.proofs.Tests.{by-cases, clash, just-true}
 use Rattle.model.proofs.AwaitsExact.{awaits-before}
+use Rattle.model.proofs.MatchingExact.{matching-ends}
 use Rattle.model.proofs.ConeEvents.{cone-valid}
-use Rattle.decision.proofs.Holds.{matching-ends, sections-apart}
+use Rattle.decision.proofs.Holds.{sections-apart}
 use Rattle.decision.proofs.Solutions.{Closed, Open, Rival, Part, Reaches, Solution, Stands}
 use Rattle.decision.proofs.ConeParts.{cone-positive, the-last, its-cell, start-before, rival-apart, section, ends, release-part}
 use Rattle.decision.proofs.Fits.{Fits}

@@ -14,7 +14,7 @@ use Rattle.model.specs.Sections.{isOutermost, isLast}
 use Rattle.model.specs.Cone.{givesBack, matching}
 use Rattle.model.specs.Matching.{HeldUntil, HoldEnd, freed, never-freed}
 use Rattle.model.proofs.Tests.{by-cases, both, clash, true-does, does-true}
-use Rattle.model.proofs.Lists.{after, numbers-split, nearest-skip, nearest-mem, mem-numbers}
+use Rattle.model.proofs.Lists.{after, numbers-split, nearest-skip, nearest-mem, nearest-passes, mem-numbers}
 use Rattle.model.proofs.Locks.{locked-before}
 use Rattle.model.proofs.SectionsExact.{after-release, outermost-acquires, last-releases}
 
@@ -28,6 +28,28 @@ module _ (t : Trace) (k : ℕ) where
   pub matching-after : (d : ℕ) → k + d ≡ length t → isOutermost t k ≡ true → matching t k ≡ nearest (givesBack t k) (after k d)
   unfolding matching givesBack
   matching-after d e o = rw o (ap (nearest (givesBack t k)) (numbers-split t d k e) ∙ nearest-skip (givesBack t k) k (after k d) (λ j l. rw (le-ltb k j l)))
+
+-- what it is: the last release of the same lock by the same thread, later than its outermost acquire
+pub record Ends (t : Trace) (a r : ℕ) : Type 0 where
+  pub outermost : isOutermost t a ≡ true
+  pub later : a < r
+  pub last : isLast t r ≡ true
+  pub lock : objectOf t r ≡ objectOf t a
+  pub thread : threadOf t r ≡ threadOf t a
+
+pub matching-ends : (t : Trace) (a : ℕ) → matching t a ≢ 0 → Ends t a (matching t a)
+unfolding matching givesBack
+matching-ends t a ne =
+    by-cases (isOutermost t a)
+    (λ o.
+    let r = nearest (λ j. givesBack t a j) (numbers t) in
+    let e : matching t a ≡ r = rw o in
+    let g : givesBack t a r ≡ true = nearest-passes (λ j. givesBack t a j) (numbers t) (λ z. ne (e ∙ z)) in
+    let p = both (ltb a r) (isLast t r && (eqb (objectOf t r) (objectOf t a) && eqb (threadOf t r) (threadOf t a))) g in
+    let q = both (isLast t r) (eqb (objectOf t r) (objectOf t a) && eqb (threadOf t r) (threadOf t a)) (p .1) in
+    let s = both (eqb (objectOf t r) (objectOf t a)) (eqb (threadOf t r) (threadOf t a)) (q .1) in
+    rw e (record { outermost = o; later = ltb-true a r (p .0); last = q .0; lock = eqb-true _ _ (s .0); thread = eqb-true _ _ (s .1) }))
+    (λ o. absurd (ne (matching-inner t a o)))
 
 -- it is an event of the trace
 pub matching-valid : (t : Trace) (k : ℕ) → matching t k ≢ 0 → Valid t (matching t k)

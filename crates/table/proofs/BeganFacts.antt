@@ -4,22 +4,22 @@ use native.Mathlib.Omega.{arith}
 use mathlib.Core.Path.{_≡_, refl, sym, _∙_, ap}
 use mathlib.Core.Logic.{_≢_, _⊎_, inl, inr, ⊎-elim}
 use mathlib.Core.Bool.{Bool, true, _&&_}
-use lib.Dec.{eqb, ltb, leb}
+use lib.Dec.{eqb, leb}
 use borrow.Author.Tests.{eqb-true, eqb-false, eq-eqb, ne-eqb}
 use Rattle.model.specs.Trace.{Trace, Valid, read, write, acquire, release, threadOf, kindOf, objectOf, does}
-use Rattle.model.specs.Lists.{before, upTo, numbers, nearest}
+use Rattle.model.specs.Lists.{before, upTo}
 use Rattle.model.specs.Observed.{observed}
 use Rattle.model.specs.Good.{WellFormed, holder}
 use Rattle.model.specs.Sections.{ownDepth, isOutermost, isLast}
-use Rattle.model.specs.Cone.{givesBack, matching}
+use Rattle.model.specs.Cone.{matching}
 use Rattle.model.specs.Matching.{HoldEnd, freed}
 use Rattle.model.proofs.Tests.{by-cases, both, true-both, either-true, true-does, false-does}
 use Rattle.model.proofs.Lists.{nearest-passes}
 use Rattle.model.proofs.SectionsExact.{outermost-acquires, last-releases, own-depth-lock}
-use Rattle.model.proofs.MatchingExact.{matching-exactly, matching-inner, matching-valid}
+use Rattle.model.proofs.MatchingExact.{Ends, matching-ends, matching-exactly, matching-valid}
 use Rattle.model.proofs.ObservedExact.{observed-write-exactly}
 use Rattle.decision.specs.Stairs.{isOpening, isWithin}
-use Rattle.decision.proofs.Holds.{matching-ends, holding, holding-on, sections-apart}
+use Rattle.decision.proofs.Holds.{holding, holding-on, sections-apart}
 use Rattle.decision.proofs.IntervalTests.{true-within, within-true, true-opening}
 use Rattle.table.specs.Links.{lastTaken, began}
 use Rattle.table.proofs.LinkFacts.{nearest-less, nearest-last}
@@ -139,43 +139,29 @@ module _ (t : Trace) where
         let end : HoldEnd t (s .start) (suc n) = freed {r = suc n} (omega arith) top held free in
         ap (matching t) (sym same) ∙ matching-exactly t w (s .start) (s .valid) (s .outermost) (suc n) .1 end
 
-    matching-last : (a : ℕ) → matching t a ≢ 0 → (isOutermost t a ≡ true) × (isLast t (matching t a) ≡ true) × (objectOf t (matching t a) ≡ objectOf t a)
-    unfolding matching givesBack
-    matching-last a ne =
-        by-cases (isOutermost t a)
-        (λ o.
-        let r = matching t a in
-        let e : matching t a ≡ nearest (λ j. givesBack t a j) (numbers t) = rw o in
-        let g : givesBack t a r ≡ true = rw e (nearest-passes (λ j. givesBack t a j) (numbers t) (λ z. ne (e ∙ z))) in
-        let p = both (ltb a r) _ g in
-        let q = both (isLast t r) _ (p .1) in
-        let s = both (eqb (objectOf t r) (objectOf t a)) _ (q .1) in
-        (o, q .0, eqb-true _ _ (s .0)))
-        (λ o. absurd (ne (matching-inner t a o)))
-
     -- a matching release is linked to its acquire
     matching-began : (a : ℕ) → Valid t a → matching t a ≢ 0 → began t (matching t a) ≡ a
     matching-began a va ne =
-        let i = matching-last a ne in
-        go (matching t a) refl i (matching-valid t a ne) (matching-ends t a ne .later) (began-last (matching t a) (i .1))
+        let i = matching-ends t a ne in
+        go (matching t a) refl i (matching-valid t a ne) (began-last (matching t a) (i .last))
       where
-        go : (r : ℕ) → matching t a ≡ r → (isOutermost t a ≡ true) × (isLast t (matching t a) ≡ true) × (objectOf t (matching t a) ≡ objectOf t a) → Valid t (matching t a) → a < matching t a
-            → began t (matching t a) ≡ lastTaken t (objectOf t (matching t a)) (before (matching t a)) → began t (matching t a) ≡ a
-        go zero m i vr lt e = absurd (ne m)
-        go (suc n) m i vr lt e =
+        go : (r : ℕ) → matching t a ≡ r → Ends t a (matching t a) → Valid t (matching t a) → began t (matching t a) ≡ lastTaken t (objectOf t (matching t a)) (before (matching t a)) → began t (matching t a) ≡ a
+        go zero m i vr e = absurd (ne m)
+        go (suc n) m i vr e =
+            let lt = i .later in
             let x = objectOf t (suc n) in
             let p : ℕ → Bool = λ j. isOutermost t j && eqb (objectOf t j) x in
             let b = lastTaken t x (upTo n) in
-            let here : objectOf t a ≡ x = sym (i .2) ∙ ap (objectOf t) m in
+            let here : objectOf t a ≡ x = sym (i .lock) ∙ ap (objectOf t) m in
             let le : a ≤ n = omega arith in
-            let low : a ≤ b = nearest-last p n a (va .positive) le (true-both (i .0) (eq-eqb _ _ here)) in
+            let low : a ≤ b = nearest-last p n a (va .positive) le (true-both (i .outermost) (eq-eqb _ _ here)) in
             let first = va .positive in
             let nz : b ≢ 0 = λ z. let y : ⊥ = omega arith in y in
             let j = taken-true x (suc n) nz in
             let below : b < suc n = nearest-less p (suc n) (omega arith) in
             let top = vr .bounded in
             let vb : Valid t b = record { positive = omega arith; bounded = omega arith } in
-            let same : a ≡ b = apart a b (suc n) va vb (i .0) (j .0) (here ∙ sym (j .1)) low below (λ z. omega arith) in
+            let same : a ≡ b = apart a b (suc n) va vb (i .outermost) (j .0) (here ∙ sym (j .1)) low below (λ z. omega arith) in
             e ∙ rw m (sym same)
 
     -- ---- within an interval exactly when linked to its beginning

@@ -8,17 +8,17 @@ use lib.ListN.{length}
 use lib.Dec.{eqb, ltb}
 use borrow.Author.Tests.{eqb-true, eqb-false, eq-eqb, ne-eqb, ltb-true, ltb-false}
 use Rattle.model.specs.Trace.{Trace, Valid, read, write, acquire, fork, join, threadOf, kindOf, objectOf, does}
-use Rattle.model.specs.Lists.{_∈_, upTo, before, numbers, nearest, just}
+use Rattle.model.specs.Lists.{_∈_, upTo, before, nearest, just}
 use Rattle.model.specs.Observed.{observed}
 use Rattle.model.specs.Good.{WellFormed, second}
 use Rattle.model.specs.Awaits.{Awaits, forked, joined}
-use Rattle.model.specs.Sections.{isOutermost, isLast}
-use Rattle.model.specs.Cone.{Earlier, givesBack, matching}
-use Rattle.model.proofs.Tests.{by-cases, clash, both, just-true, true-just, does-true, true-does}
+use Rattle.model.specs.Sections.{isLast}
+use Rattle.model.specs.Cone.{Earlier, matching}
+use Rattle.model.proofs.Tests.{by-cases, clash, just-true, true-just, does-true, true-does}
 use Rattle.model.proofs.Lists.{nearest-mem, nearest-passes, none-nearest, mem-before, before-mem, mem-upTo}
 use Rattle.model.proofs.AwaitsExact.{awaits-valid, awaits-before}
 use Rattle.model.proofs.SectionsExact.{outermost-acquires, last-releases}
-use Rattle.model.proofs.MatchingExact.{matching-valid}
+use Rattle.model.proofs.MatchingExact.{matching-ends, matching-valid}
 use Rattle.table.specs.Links.{lastBy, previous, waitsFor, forkOf, releaseOf}
 
 -- ---- the nearest event
@@ -155,13 +155,6 @@ module _ (t : Trace) where
 
   -- ---- where a section ends
 
-  matching-acquires : (k : ℕ) → matching t k ≢ 0 → (kindOf t k ≡ acquire) × (k < matching t k)
-  unfolding matching givesBack
-  matching-acquires k ne =
-      by-cases (isOutermost t k)
-      (λ e. (outermost-acquires t k e, rw e (ltb-true k _ (both _ _ (nearest-passes (λ j. givesBack t k j) (numbers t) (rw e at ne)) .0))))
-      (λ e. let z = rw e at ne in absurd (z refl))
-
   pub acquires-release : (k : ℕ) → kindOf t k ≡ acquire → releaseOf t k ≡ matching t k
   unfolding releaseOf
   acquires-release k e = by-cases (isLast t k) (λ l. let r = last-releases t k l in absurd (omega arith)) (λ l. rw l)
@@ -169,7 +162,7 @@ module _ (t : Trace) where
   -- a link to another event is that of an acquire
   pub release-acquires : (k : ℕ) → releaseOf t k ≢ 0 → releaseOf t k ≢ k → (kindOf t k ≡ acquire) × (matching t k ≡ releaseOf t k)
   unfolding releaseOf
-  release-acquires k ne other = by-cases (isLast t k) (λ l. let z = rw l at other in absurd (z refl)) (λ l. rw l (matching-acquires k (rw l at ne) .0, refl))
+  release-acquires k ne other = by-cases (isLast t k) (λ l. let z = rw l at other in absurd (z refl)) (λ l. rw l (outermost-acquires t k (matching-ends t k (rw l at ne) .outermost), refl))
 
   -- a last release is the event that is linked to itself
   pub last-release : (k : ℕ) → 1 ≤ k → isLast t k ≡ eqb (releaseOf t k) k
@@ -178,7 +171,7 @@ module _ (t : Trace) where
       by-cases (isLast t k)
       (λ l. rw (l, eq-eqb k k refl))
       (λ l.
-      let ne : matching t k ≢ k = λ z. let y = matching-acquires k (λ u. let v : ⊥ = omega arith in v) .1 in let v : ⊥ = omega arith in v in
+      let ne : matching t k ≢ k = λ z. let y = matching-ends t k (λ u. let v : ⊥ = omega arith in v) .later in let v : ⊥ = omega arith in v in
       rw (l, ne-eqb (matching t k) k ne))
 
   pub release-after : (k : ℕ) → 1 ≤ k → k ≤ length t → releaseOf t k ≢ 0 → (k ≤ releaseOf t k) × (releaseOf t k ≤ length t)
@@ -188,4 +181,4 @@ module _ (t : Trace) where
       (λ l. rw l (omega arith, q))
       (λ l.
       let m : matching t k ≢ 0 = rw l at ne in
-      let z = matching-acquires k m .1 in rw l (omega arith, matching-valid t k m .bounded))
+      let z = matching-ends t k m .later in rw l (omega arith, matching-valid t k m .bounded))
