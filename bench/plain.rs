@@ -3,12 +3,12 @@
 //! table of dead places, as the proved code had it before it had staircases. And question 2 for all events at once.
 //! Nothing is shared with the proved code; what the two sides give is compared.
 
-const READ: u8 = 1;
-const WRITE: u8 = 2;
-const ACQUIRE: u8 = 3;
-const RELEASE: u8 = 4;
-const FORK: u8 = 5;
-const JOIN: u8 = 6;
+pub const READ: u8 = 1;
+pub const WRITE: u8 = 2;
+pub const ACQUIRE: u8 = 3;
+pub const RELEASE: u8 = 4;
+pub const FORK: u8 = 5;
+pub const JOIN: u8 = 6;
 
 #[derive(Clone, Copy)]
 struct Event {

@@ -2,12 +2,7 @@
 //! dense locks, or dense ones that are taken again while held, or by threads that are forked and joined. And three
 //! kinds that a search is slow on.
 
-const READ: u8 = 1;
-const WRITE: u8 = 2;
-const ACQUIRE: u8 = 3;
-const RELEASE: u8 = 4;
-const FORK: u8 = 5;
-const JOIN: u8 = 6;
+use crate::plain::{ACQUIRE, FORK, JOIN, READ, RELEASE, WRITE};
 
 /// Thread, kind, object.
 type Event = (u8, u8, u8);

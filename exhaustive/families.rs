@@ -1,11 +1,11 @@
 //! Group 10, request Five: short recordings with a fork, a join or both, random ones dense in forks
 //! and joins.
 
-use crate::askings::{ask_a_few, ask_all_now_and_then};
+use crate::askings::ask_a_few;
 use crate::book::Book;
 use crate::chance::Chance;
 use crate::forks;
-use crate::random::{edit, like_the_book, random_access, random_stock, Stock};
+use crate::random::{edit, like_the_book, random_access, random_stock, Random, Stock};
 use crate::recording::{
     acq, count_threads, file, fork, join, may_come_next, r, rel, told, w, Event, Kind, Recording,
 };
@@ -113,18 +113,17 @@ pub fn write(book: &mut Book) {
         book.recording(&file(&[], events));
         ask_a_few(book, &mut chance, 3);
     }
-    book.group("group 10, random: recordings of 6 to 9 events dense in forks and joins");
-    let mut chance = Chance::new(104);
-    let mut of_all = Chance::new(122);
-    for _ in 0..RECORDINGS {
-        put_one(book, &mut chance);
-        ask_all_now_and_then(book, &mut of_all);
-    }
-    book.group("group 10, longer: random recordings of 10 to 14 events dense in forks and joins");
-    for turn in 0..LONGER {
-        put_longer(book, &mut chance, turn);
-        ask_all_now_and_then(book, &mut of_all);
-    }
+    let random = Random {
+        titles: [
+            "group 10, random: recordings of 6 to 9 events dense in forks and joins",
+            "group 10, longer: random recordings of 10 to 14 events dense in forks and joins",
+        ],
+        counts: [RECORDINGS, LONGER],
+        seeds: [104, 122],
+        put_one,
+        put_longer,
+    };
+    random.write(book);
 }
 
 /// One random recording with its askings.

@@ -25,19 +25,46 @@ impl Stock {
     }
 }
 
+/// A kind of random recordings: the titles, how many there are, and how one of them is put, of the
+/// short ones and of the longer ones. The chances are those of the recordings and of the askings.
+pub struct Random {
+    pub titles: [&'static str; 2],
+    pub counts: [usize; 2],
+    pub seeds: [u64; 2],
+    pub put_one: fn(&mut Book, &mut Chance),
+    pub put_longer: fn(&mut Book, &mut Chance, usize),
+}
+
+impl Random {
+    /// Writes them, with all of question 2's answers now and then.
+    pub fn write(&self, book: &mut Book) {
+        let mut chance = Chance::new(self.seeds[0]);
+        let mut of_all = Chance::new(self.seeds[1]);
+        book.group(self.titles[0]);
+        for _ in 0..self.counts[0] {
+            (self.put_one)(book, &mut chance);
+            ask_all_now_and_then(book, &mut of_all);
+        }
+        book.group(self.titles[1]);
+        for turn in 0..self.counts[1] {
+            (self.put_longer)(book, &mut chance, turn);
+            ask_all_now_and_then(book, &mut of_all);
+        }
+    }
+}
+
 pub fn write(book: &mut Book) {
-    book.group("group 4: random recordings of 6 to 9 events by 2 to 4 threads");
-    let mut chance = Chance::new(4);
-    let mut of_all = Chance::new(22);
-    for _ in 0..RECORDINGS {
-        put_one(book, &mut chance);
-        ask_all_now_and_then(book, &mut of_all);
-    }
-    book.group("group 4, longer ones: random recordings of 10 to 14 events");
-    for turn in 0..LONGER {
-        put_longer(book, &mut chance, turn);
-        ask_all_now_and_then(book, &mut of_all);
-    }
+    let random = Random {
+        titles: [
+            "group 4: random recordings of 6 to 9 events by 2 to 4 threads",
+            "group 4, longer ones: random recordings of 10 to 14 events",
+        ],
+        counts: [RECORDINGS, LONGER],
+        seeds: [4, 22],
+        put_one,
+        put_longer,
+    };
+    random.write(book);
 }
 
 /// One longer recording by two or three threads; by two, every correct reordering is visited too.

@@ -1,10 +1,10 @@
 //! Group 4, request Three: random recordings in which a lock is taken again.
 
-use crate::askings::{ask_a_few, ask_all_now_and_then};
+use crate::askings::ask_a_few;
 use crate::book::Book;
 use crate::chance::Chance;
 use crate::holds::{has_reentry, hold};
-use crate::random::{edit, in_sections, like_the_book, random_access, random_stock, Stock};
+use crate::random::{edit, in_sections, like_the_book, random_access, random_stock, Random, Stock};
 use crate::recording::{acq, count_threads, file, rel, told, Event};
 use crate::study::depends_on_depth;
 
@@ -12,18 +12,17 @@ const RECORDINGS: usize = 1500;
 const LONGER: usize = 300;
 
 pub fn write(book: &mut Book) {
-    book.group("group 4, re-entry: random recordings of 6 to 9 events by 2 to 4 threads");
-    let mut chance = Chance::new(10);
-    let mut of_all = Chance::new(32);
-    for _ in 0..RECORDINGS {
-        put_one(book, &mut chance);
-        ask_all_now_and_then(book, &mut of_all);
-    }
-    book.group("group 4, re-entry, longer ones: random recordings of 10 to 14 events");
-    for turn in 0..LONGER {
-        put_longer(book, &mut chance, turn);
-        ask_all_now_and_then(book, &mut of_all);
-    }
+    let random = Random {
+        titles: [
+            "group 4, re-entry: random recordings of 6 to 9 events by 2 to 4 threads",
+            "group 4, re-entry, longer ones: random recordings of 10 to 14 events",
+        ],
+        counts: [RECORDINGS, LONGER],
+        seeds: [10, 32],
+        put_one,
+        put_longer,
+    };
+    random.write(book);
 }
 
 /// One random recording with its askings.

@@ -280,7 +280,7 @@ module _ (t : Trace) (k : ℕ) (last writes locks : List ℕ) (c : ℕ) (ec : c 
 module _ (t : Trace) (k : ℕ) (writes locks : List ℕ) (x : ℕ) (ex : x ≡ objectOf t k) (lx : x ≤ maxObject) (d : ℕ) (ed : d ≡ kindOf t k) where
   -- what it sees, and whether its lock is free
   remain : (r : ℕ) → ((h last : List ℕ) → Knows t h last writes locks → r ≡ orZero (first ((eqb (kindOf t k) read && not (isSeen t h k)) ∷ (eqb (kindOf t k) acquire && not (isFree t h k)) ∷ []) (23 ∷ 24 ∷ []))) → AccessTold t writes locks k r
-  unfolding accessFault
+  unfolding accessFault placeTests
   remain r f = record { is = λ h last q. f h last q }
 
   module _ (e : d ≡ read) (w : ℕ) (ew : w ≡ getD writes x 0) (o : ℕ) (eo : o ≡ waitsFor t k) where

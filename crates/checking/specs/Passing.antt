@@ -1,16 +1,17 @@
 -- What the pass over a proposed list keeps of the events that have been passed, and what its parts say by it.
 use Prim.Native.Nat.{ℕ}
 use mathlib.Core.Path.{_≡_}
-use mathlib.Core.Bool.{Bool, _&&_, _||_, not}
+use mathlib.Core.Bool.{Bool, _&&_, _||_}
 use mathlib.Core.List.{List, [], _∷_, reverse}
+use lib.ListN.{take, drop}
 use lib.Dec.{eqb}
-use Rattle.model.specs.Trace.{Trace, read, acquire, kindOf}
+use Rattle.model.specs.Trace.{Trace}
 use Rattle.model.specs.Lists.{listed}
 use Rattle.model.specs.Observed.{lastWrite}
 use Rattle.model.specs.Good.{maxThread, maxObject, holder}
 use Rattle.model.specs.Reordering.{Correct}
 use Rattle.model.specs.Rows.{first, orZero}
-use Rattle.decision.specs.Check.{isNext, isSeen, isFree, isReady, placeFault, faultFrom}
+use Rattle.decision.specs.Check.{isNext, isReady, placeTests, placeFault, faultFrom}
 use Rattle.table.specs.Links.{lastOf}
 use Rattle.table.specs.Entries.{Entries}
 
@@ -39,9 +40,9 @@ pub record ReadyTold (t : Trace) (last : List ℕ) (k : ℕ) (r : Bool) : Type 0
 pub record EnabledTold (t : Trace) (last : List ℕ) (k : ℕ) (r : Bool) : Type 0 where
   pub is : (h writes locks : List ℕ) → Knows t h last writes locks → r ≡ isNext t h k && isReady t h k
 
--- fault 23 or 24 of an event
+-- fault 23 or 24 of an event: the third and the fourth row
 unfoldable pub accessFault : Trace → List ℕ → ℕ → ℕ
-accessFault t h k = orZero (first ((eqb (kindOf t k) read && not (isSeen t h k)) ∷ (eqb (kindOf t k) acquire && not (isFree t h k)) ∷ []) (23 ∷ 24 ∷ []))
+accessFault t h k = orZero (first (take 2 (drop 2 (placeTests t h k))) (23 ∷ 24 ∷ []))
 
 pub record AccessTold (t : Trace) (writes locks : List ℕ) (k r : ℕ) : Type 0 where
   pub is : (h last : List ℕ) → Knows t h last writes locks → r ≡ accessFault t h k

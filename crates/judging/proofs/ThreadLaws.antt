@@ -7,12 +7,11 @@ use mathlib.Core.List.{_∷_}
 use lib.Dec.{eqb}
 use mir.Val.{Fits}
 use mir.Syntax.{w8}
-use borrow.Author.Tests.{eq-eqb, ne-eqb, le-leb, eqb-true, eqb-false}
+use borrow.Author.Tests.{eq-eqb, ne-eqb, eqb-true, eqb-false}
 use Rattle.model.specs.Trace.{Trace, at, fork, join, threadOf, kindOf, objectOf, does}
 use Rattle.model.specs.Lists.{before, just}
-use Rattle.model.specs.Good.{maxThread, objectLimit}
 use Rattle.model.specs.Refusals.{InLimits}
-use Rattle.model.proofs.Tests.{by-cases, false-does}
+use Rattle.model.proofs.Tests.{by-cases, false-does, child-small}
 use Rattle.bits.specs.Mask.{holds, including}
 use Rattle.bits.proofs.MaskLaws.{held-same, held-other}
 use Rattle.decision.specs.Refusals.{isBegun, isForked, isJoined, isSelf, isSecond}
@@ -94,11 +93,7 @@ module _ (t : Trace) (k : ℕ) (s : Threads) (sets : ThreadSets t (before k) s) 
 
     -- the object of a fork or join is a thread
     object-thread : fork ≤ kindOf t k → e .object < 16
-    object-thread h =
-        let l = limits .object in
-        let x = object-is t k e is in
-        let m : objectLimit (kindOf t k) ≡ maxThread = rw (le-leb fork (kindOf t k) h) in
-        omega arith
+    object-thread h = let l = child-small t k (limits .object) h in let x = object-is t k e is in omega arith
 
     pub forked-below : e .kind ≡ fork → e .object < 16
     forked-below f = let x = kind-is t k e is in object-thread (omega arith)

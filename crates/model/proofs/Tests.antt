@@ -7,10 +7,10 @@ use mathlib.Core.Bool.{Bool, true, false, _&&_, _||_, true≢false, false≢true
 use mathlib.Core.List.{List, _∷_, List·Memᴰ, List·Memᴰ·cases-cons}
 use lib.ListN.{length, List·getD-eq-default}
 use lib.Dec.{eqb, leb, ltb}
-use borrow.Author.Tests.{eqb-true, eq-eqb, ne-eqb, ltb-true, ltb-false}
+use borrow.Author.Tests.{eqb-true, eq-eqb, ne-eqb, le-leb, ltb-true, ltb-false}
 use Rattle.model.specs.Trace.{Trace, Event, Valid, noEvent, fork, kindOf, objectOf, does}
 use Rattle.model.specs.Lists.{just, allBut}
-use Rattle.model.specs.Good.{Good, maxObject, objectLimit}
+use Rattle.model.specs.Good.{Good, maxThread, maxObject, objectLimit}
 
 pub by-cases {ℓ} : {G : Type ℓ} (b : Bool) → (b ≡ true → G) → (b ≡ false → G) → G
 by-cases true f g = f refl
@@ -109,6 +109,10 @@ kind-valid t (suc k) ne =
 -- no object is above the limit of cells and locks
 pub limit-small : (c : ℕ) → objectLimit c ≤ maxObject
 limit-small c = by-cases (leb fork c) (λ e. rw e (omega arith)) (λ e. rw e (omega arith))
+
+-- and that of a fork or join is a thread
+pub child-small : (t : Trace) (k : ℕ) → objectOf t k ≤ objectLimit (kindOf t k) → fork ≤ kindOf t k → objectOf t k ≤ maxThread
+child-small t k p f = rw (le-leb fork (kindOf t k) f) at p
 
 pub object-small : (t : Trace) → Good t → (k : ℕ) → Valid t k → objectOf t k ≤ maxObject
 object-small t g k v = let p = g .object-limit k v in let q = limit-small (kindOf t k) in omega arith

@@ -6,10 +6,10 @@ use mathlib.Core.Bool.{false}
 use mathlib.Core.List.{List}
 use lib.ListN.{length, getD}
 use lib.Dec.{eqb}
-use borrow.Author.Tests.{eq-eqb, ne-eqb, le-leb}
+use borrow.Author.Tests.{eq-eqb, ne-eqb}
 use Rattle.model.specs.Trace.{Event, Trace, noEvent, fork, at, threadOf, kindOf, objectOf, Valid, does}
 use Rattle.model.specs.Good.{Good, maxThread, maxObject}
-use Rattle.model.proofs.Tests.{object-small}
+use Rattle.model.proofs.Tests.{child-small, object-small}
 use Rattle.table.specs.Table.{words, word, eventIn, rows, trace, columns, column, Linked, Place}
 
 length-rows : (s : List ℕ) (k n : ℕ) → length (rows s k n) ≡ n
@@ -72,7 +72,7 @@ module _ {t : Trace} {k : ℕ} (g : Good t) (v : Valid t k) (x : ℕ) where
   object-place e = let z = object-small t g k v in omega arith
 
   pub child-place : fork ≤ kindOf t k → x ≡ objectOf t k → x ≤ maxThread
-  child-place f e = let z : objectOf t k ≤ maxThread = rw (le-leb fork (kindOf t k) f) at (g .object-limit k v) in omega arith
+  child-place f e = let z = child-small t k (g .object-limit k v) f in omega arith
 
 -- the place of a word is there
 pub word-there : {k c : ℕ} {s : List ℕ} → Place k c s → words * (k - 1) + c < length s
