@@ -65,8 +65,8 @@ int main(void) {
   holds("a short buffer", tarungkis_report(q, sizeof q, place, out, sizeof out - 1) == 0 && place[0] == 1 && place[1] == 1 && place[2] == 8 && place[3] == 1);
   holds("its last line", tarungkis_report(q, sizeof q, place, out, sizeof out) == 8 && memcmp(out, report + 42, 8) == 0 && place[0] == 2);
   holds("its end", tarungkis_report(q, sizeof q, place, out, sizeof out) == 0 && place[0] == 2 && memcmp(out, report + 42, 8) == 0);
-  place[0] = 0, place[3] = 262145;
-  holds("no place", tarungkis_report(q, sizeof q, place, out, sizeof out) == 0 && place[3] == 262145);
+  place[0] = 0, place[3] = TARUNGKIS_MAX_RACES + 1;
+  holds("no place", tarungkis_report(q, sizeof q, place, out, sizeof out) == 0 && place[3] == TARUNGKIS_MAX_RACES + 1);
 
   expect("nothing", tarungkis_judge(NULL, 0), TARUNGKIS_FILE_SIZE, 0, 0);
   expect("nothing, 2", tarungkis_observed_writes(NULL, 0, NULL, 0), TARUNGKIS_FILE_SIZE, 0, 0);

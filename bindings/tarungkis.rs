@@ -63,8 +63,11 @@ unsafe extern "C" {
 
 pub const MAX_BYTES: usize = 4096;
 pub const MAX_EVENTS: usize = 512;
+pub const MAX_THREAD: usize = 15;
+pub const MAX_OBJECT: usize = 255;
 pub const AREA_BYTES: usize = 65536;
-pub const LINE_BYTES: usize = 4096;
+pub const LINE_BYTES: usize = 25 + 6 * MAX_EVENTS;
+pub const MAX_RACES: usize = MAX_EVENTS * MAX_EVENTS;
 
 /// A refusal: its number in the paper, and the event that it speaks of, or 0.
 #[derive(Clone, Copy, Debug, PartialEq)]

@@ -6,7 +6,7 @@ use crate::chance::Chance;
 use crate::preambles;
 use crate::questions::AREA;
 use crate::random::random_events;
-use crate::recording::{acq, event_bytes, file, r, rel, told, trailer, w, Event};
+use crate::recording::{acq, event_bytes, file, r, rel, size, told, trailer, w, Event, TRAILER};
 use crate::reentry::random_reentry;
 use crate::short::every_without_reentry;
 use crate::worked::{Q, R, Z};
@@ -16,16 +16,15 @@ use crate::worked::{Q, R, Z};
 pub struct Raw {
     pub preamble: Vec<u8>,
     pub events: Vec<[u8; 4]>,
-    trailer: [u8; 8],
+    trailer: [u8; TRAILER],
 }
 
 impl Raw {
     pub fn new(preamble: &[u8], events: &[Event]) -> Raw {
-        let n = events.len();
         Raw {
             preamble: preamble.to_vec(),
             events: events.iter().map(event_bytes).collect(),
-            trailer: trailer(8 + 4 * n as u32, n as u16),
+            trailer: trailer(events.len()),
         }
     }
 
@@ -149,7 +148,7 @@ fn counts(book: &mut Book) {
                 let mut raw = Raw::new(preamble, &there);
                 raw.set_count(count);
                 book.recording(&raw.bytes());
-                raw.set_distance(8 + 4 * count as u32);
+                raw.set_distance(size(0, count.into()) as u32);
                 // a lower count leaves events in the preamble
                 book.recording_and_readable(&raw.bytes());
             }
@@ -167,7 +166,7 @@ fn distances(book: &mut Book) {
             b"four",
             b"as long as ten events are, 40 bytes ....",
         ] {
-            let right = 8 + 4 * events.len() as u32;
+            let right = size(0, events.len()) as u32;
             let length = right + preamble.len() as u32;
             let wrong = [
                 right - 1,

@@ -2,7 +2,7 @@
 //! release undoes one level. Only an outermost acquire and its last release count in matching, in
 //! cone rule (iv) and in "no lock acquired while held"; the inner ones are events as any other.
 
-use crate::recording::{r, Event, Kind};
+use crate::recording::{r, Event, Kind, LIMITS};
 use crate::rules::is_of_lock;
 
 /// A lock's holder, and how many of the holder's acquires are not undone: one or more.
@@ -82,10 +82,10 @@ pub fn deepest(events: &[Event]) -> usize {
     depths.max().unwrap_or(0)
 }
 
-/// A read of a cell that no recording has: it stands in its thread as any event, and nothing else
+/// A read of a cell that no recording may have: it stands in its thread as any event, and nothing else
 /// depends on it.
 pub fn idle(thread: u8) -> Event {
-    r(thread, 1000)
+    r(thread, LIMITS.object + 1)
 }
 
 /// The recording with an idle read in place of each inner acquire and release. Nothing in it is

@@ -4,7 +4,7 @@ use crate::askings::ask_all;
 use crate::book::{Book, LONGEST};
 use crate::depths;
 use crate::questions::AREA;
-use crate::recording::{acq, file, r, rel, told, w, Event};
+use crate::recording::{acq, file, r, rel, told, w, Event, LIMITS};
 use crate::worked::{Q, W};
 
 pub fn write(book: &mut Book) {
@@ -237,7 +237,7 @@ fn preambles(book: &mut Book) {
     book.title("preambles up to a file of 4,096 bytes, with and without 512 events");
     for n in [0, 1, 8, 511, 512] {
         let events = vec![r(1, 3); n];
-        let most = 4096 - 8 - 4 * n;
+        let most = LIMITS.preamble(n);
         for length in [1, 19, 20, 21, most - 1, most, most + 1] {
             let preamble: Vec<u8> = (0..length)
                 .map(|i| if i < 24 { 0x41 + i as u8 } else { 0x2E })

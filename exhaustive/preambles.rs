@@ -2,7 +2,7 @@
 
 use crate::book::Book;
 use crate::damaged::ask_of_refused;
-use crate::recording::{file, r, readable, told, w};
+use crate::recording::{file, r, readable, told, w, LIMITS};
 use crate::worked::Q;
 
 /// Bytes on both sides of each edge of what a preamble may hold.
@@ -75,7 +75,7 @@ fn longest(book: &mut Book) {
     book.title("refusals 13, 3 and 1: preambles up to 4,096 bytes of file, and one byte longer");
     for n in [0, 1, 512, 513] {
         let events = vec![r(1, 3); n];
-        let most = 4096 - 8 - 4 * n;
+        let most = LIMITS.preamble(n);
         for length in [most, most + 1] {
             let spoiled = spoiled_places(length).map(Some);
             for spoiled in [None].into_iter().chain(spoiled) {

@@ -5,6 +5,39 @@
 use crate::holds::{held_by_another, hold};
 use crate::threads::{has_event, is_forked, is_joined};
 
+/// What a recording may have at most.
+pub struct Limits {
+    pub events: usize,
+    pub bytes: usize,
+    /// The highest cell, and the highest lock.
+    pub object: u16,
+}
+
+impl Limits {
+    /// The longest preamble beside so many events.
+    pub fn preamble(&self, events: usize) -> usize {
+        self.bytes - size(0, events)
+    }
+}
+
+pub const LIMITS: Limits = Limits {
+    events: 512,
+    bytes: 4096,
+    object: 255,
+};
+
+/// The highest thread, as an event's own and as the object of a fork or a join.
+pub const MAX_THREAD: u8 = 15;
+
+/// How many bytes an event has, and how many the trailer.
+pub const EVENT: usize = 4;
+pub const TRAILER: usize = 8;
+
+/// How many bytes a file has with a preamble of so many and so many events.
+pub fn size(preamble: usize, events: usize) -> usize {
+    preamble + EVENT * events + TRAILER
+}
+
 #[derive(Clone, Copy, PartialEq, Eq, Debug)]
 pub enum Kind {
     Read,
@@ -68,7 +101,7 @@ pub fn judge(bytes: &[u8]) -> Result<Recording, Refusal> {
     }
     Ok(Recording {
         preamble: preamble.to_vec(),
-        events: judge_events(&bytes[first..bytes.len() - 8])?,
+        events: judge_events(&bytes[first..bytes.len() - TRAILER])?,
     })
 }
 
@@ -95,7 +128,7 @@ pub fn made_readable(bytes: &[u8]) -> Vec<u8> {
 /// Judges the events one by one: refusals 5, 6, 7, then 15, 16, 17, then 8 or 9.
 pub fn judge_events(bytes: &[u8]) -> Result<Vec<Event>, Refusal> {
     let mut events: Vec<Event> = Vec::new();
-    for four in bytes.chunks(4) {
+    for four in bytes.chunks(EVENT) {
         let number = events.len() + 1;
         let event = judge_event(four, number)?;
         judge_thread(&events, event, number)?;
@@ -107,22 +140,22 @@ pub fn judge_events(bytes: &[u8]) -> Result<Vec<Event>, Refusal> {
 
 /// Judges size and trailer and gives the place of the first event's first byte.
 fn first_event(bytes: &[u8]) -> Result<usize, Refusal> {
-    if bytes.len() < 8 || bytes.len() > 4096 {
+    if bytes.len() < TRAILER || bytes.len() > LIMITS.bytes {
         return Err(Refusal::plain(1));
     }
-    let trailer = &bytes[bytes.len() - 8..];
+    let trailer = &bytes[bytes.len() - TRAILER..];
     if trailer[6] != 0x50 || trailer[7] != 0x4C {
         return Err(Refusal::plain(2));
     }
-    let count = u16::from_le_bytes([trailer[4], trailer[5]]) as u64;
-    if count > 512 {
+    let count = u16::from_le_bytes([trailer[4], trailer[5]]) as usize;
+    if count > LIMITS.events {
         return Err(Refusal::plain(3));
     }
-    let distance = u32::from_le_bytes([trailer[0], trailer[1], trailer[2], trailer[3]]) as u64;
-    if distance != 8 + 4 * count || distance > bytes.len() as u64 {
+    let distance = u32::from_le_bytes([trailer[0], trailer[1], trailer[2], trailer[3]]) as usize;
+    if distance != size(0, count) || distance > bytes.len() {
         return Err(Refusal::plain(4));
     }
-    Ok(bytes.len() - distance as usize)
+    Ok(bytes.len() - distance)
 }
 
 /// Judges the four bytes of one event: refusals 5, 6, 7.
@@ -136,7 +169,7 @@ fn judge_event(four: &[u8], number: usize) -> Result<Event, Refusal> {
         6 => Kind::Join,
         _ => return Err(Refusal::at(5, number)),
     };
-    if four[0] > 15 {
+    if four[0] > MAX_THREAD {
         return Err(Refusal::at(6, number));
     }
     let object = u16::from_le_bytes([four[2], four[3]]);
@@ -153,8 +186,8 @@ fn judge_event(four: &[u8], number: usize) -> Result<Event, Refusal> {
 /// The object of a fork or a join is a thread; cells and locks go further.
 fn most_object(kind: Kind) -> u16 {
     match kind {
-        Kind::Fork | Kind::Join => 15,
-        _ => 255,
+        Kind::Fork | Kind::Join => MAX_THREAD.into(),
+        _ => LIMITS.object,
     }
 }
 
@@ -196,12 +229,12 @@ pub fn may_come_next(events: &[Event], event: Event) -> bool {
 
 /// The number of different threads that have an event.
 pub fn count_threads(events: &[Event]) -> usize {
-    (0..16u8)
+    (0..=MAX_THREAD)
         .filter(|t| events.iter().any(|e| e.thread == *t))
         .count()
 }
 
-pub fn event_bytes(event: &Event) -> [u8; 4] {
+pub fn event_bytes(event: &Event) -> [u8; EVENT] {
     let kind = match event.kind {
         Kind::Read => 1,
         Kind::Write => 2,
@@ -214,10 +247,10 @@ pub fn event_bytes(event: &Event) -> [u8; 4] {
     [event.thread, kind, object[0], object[1]]
 }
 
-/// The trailer with any distance and count, right or wrong.
-pub fn trailer(distance: u32, count: u16) -> [u8; 8] {
-    let d = distance.to_le_bytes();
-    let c = count.to_le_bytes();
+/// The trailer of so many events. If they are more than it can count, it is wrong.
+pub fn trailer(events: usize) -> [u8; TRAILER] {
+    let d = (size(0, events) as u32).to_le_bytes();
+    let c = (events as u16).to_le_bytes();
     [d[0], d[1], d[2], d[3], c[0], c[1], 0x50, 0x4C]
 }
 
@@ -227,7 +260,7 @@ pub fn file(preamble: &[u8], events: &[Event]) -> Vec<u8> {
     for event in events {
         bytes.extend(event_bytes(event));
     }
-    bytes.extend(trailer(8 + 4 * events.len() as u32, events.len() as u16));
+    bytes.extend(trailer(events.len()));
     bytes
 }
 

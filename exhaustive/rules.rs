@@ -3,7 +3,7 @@
 //! from 1; a list is a list of event numbers.
 
 use crate::holds::{self, counts};
-use crate::recording::{Event, Kind};
+use crate::recording::{Event, Kind, MAX_THREAD};
 use crate::threads::{begun, ended, fork_of, joined_by};
 
 pub type List = Vec<usize>;
@@ -71,7 +71,7 @@ fn none_twice(list: &[usize]) -> bool {
 }
 
 fn beginnings_in_order(events: &[Event], list: &[usize]) -> bool {
-    (0..16u8).all(|thread| {
+    (0..=MAX_THREAD).all(|thread| {
         let mut own = (1..=events.len()).filter(|e| at(events, *e).thread == thread);
         list.iter()
             .filter(|e| at(events, **e).thread == thread)

@@ -5,7 +5,7 @@ use crate::askings::ask_a_few;
 use crate::book::Book;
 use crate::chance::Chance;
 use crate::holds::has_reentry;
-use crate::recording::{acq, file, may_come_next, r, rel, w, Event};
+use crate::recording::{acq, file, may_come_next, r, rel, w, Event, MAX_THREAD};
 
 /// Every well-formed recording of at most so many events by two threads with one cell and so many
 /// locks, the empty one too. The first event is by thread 0, and a lock comes after the one before
@@ -43,7 +43,7 @@ fn choices(before: &[Event], locks: u16) -> Vec<Event> {
 
 /// Whether there is an event of the lock; in a good recording the first of them is an acquire.
 fn has_lock(events: &[Event], lock: u16) -> bool {
-    (0..16).any(|thread| events.contains(&acq(thread, lock)))
+    (0..=MAX_THREAD).any(|thread| events.contains(&acq(thread, lock)))
 }
 
 /// Those with one lock in which nothing is taken again.

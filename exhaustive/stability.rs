@@ -9,6 +9,7 @@ use crate::families;
 use crate::holds::has_reentry;
 use crate::questions::first_fault;
 use crate::recording::{acq, count_threads, fork, join, may_come_next, r, rel, w, Event, Kind};
+use crate::recording::{LIMITS, MAX_THREAD};
 use crate::rules::{brings_next, is_access, is_of_lock, List};
 use crate::short::{every, every_with_reentry};
 use crate::study::{conflicting_pairs, shown_by_merges, SHORT};
@@ -180,8 +181,8 @@ fn threads_with(events: &[Event], new_threads: usize) -> Vec<u8> {
         let thread = u16::from(*t);
         has_event(events, thread) || is_forked(events, thread) || is_joined(events, thread)
     };
-    let old = (0..16u8).filter(named);
-    let new = (0..16u8).filter(|t| !named(t)).take(new_threads);
+    let old = (0..=MAX_THREAD).filter(named);
+    let new = (0..=MAX_THREAD).filter(|t| !named(t)).take(new_threads);
     old.chain(new).collect()
 }
 
@@ -197,11 +198,11 @@ fn additions(events: &[Event], new_threads: usize) -> Vec<Event> {
                 is_of_lock(**e)
             }
         };
-        let used: Vec<u16> = events.iter().filter(of_kind).map(|e| e.object).collect();
-        let new = (0..256u16).find(|o| !used.contains(o));
-        (0..256u16)
-            .filter(|o| used.contains(o) || Some(*o) == new)
-            .collect()
+        let mut used: Vec<u16> = events.iter().filter(of_kind).map(|e| e.object).collect();
+        used.extend((0..=LIMITS.object).find(|o| !used.contains(o)));
+        used.sort();
+        used.dedup();
+        used
     };
     let mut all = Vec::new();
     for t in threads {

@@ -2,7 +2,7 @@
 //! events of the joined thread.
 
 use crate::holds::idle;
-use crate::recording::{r, w, Event, Kind};
+use crate::recording::{r, w, Event, Kind, LIMITS, MAX_THREAD};
 
 fn forks(event: &Event, thread: u16) -> bool {
     event.kind == Kind::Fork && event.object == thread
@@ -79,6 +79,16 @@ pub struct Told {
     pub numbers: Vec<usize>,
 }
 
+/// The cells that stand for the fork and the join of a thread: none that a recording may have, nor
+/// that of an idle read.
+fn fork_cell(thread: u16) -> u16 {
+    LIMITS.object + 2 + thread
+}
+
+fn join_cell(thread: u16) -> u16 {
+    fork_cell(MAX_THREAD.into()) + 1 + thread
+}
+
 /// Tells forks and joins by cells; the thread that is left out does not read its fork's cell.
 pub fn told_by_cells(events: &[Event], left_out: Option<u8>) -> Told {
     let mut told = Told {
@@ -87,20 +97,20 @@ pub fn told_by_cells(events: &[Event], left_out: Option<u8>) -> Told {
     };
     for (i, event) in events.iter().enumerate() {
         let thread = event.thread;
-        let (fork_cell, join_cell) = (1100 + u16::from(thread), 1200 + u16::from(thread));
-        let first = !has_event(&events[..i], thread.into());
-        let last = !has_event(&events[i + 1..], thread.into());
-        if first && is_forked(events, thread.into()) && left_out != Some(thread) {
-            told.events.push(r(thread, fork_cell));
+        let own = u16::from(thread);
+        let first = !has_event(&events[..i], own);
+        let last = !has_event(&events[i + 1..], own);
+        if first && is_forked(events, own) && left_out != Some(thread) {
+            told.events.push(r(thread, fork_cell(own)));
         }
         told.events.push(match event.kind {
-            Kind::Fork => w(thread, 1100 + event.object),
-            Kind::Join => r(thread, 1200 + event.object),
+            Kind::Fork => w(thread, fork_cell(event.object)),
+            Kind::Join => r(thread, join_cell(event.object)),
             _ => *event,
         });
         told.numbers.push(told.events.len());
-        if last && is_joined(events, thread.into()) {
-            told.events.push(w(thread, join_cell));
+        if last && is_joined(events, own) {
+            told.events.push(w(thread, join_cell(own)));
         }
     }
     told

@@ -2,7 +2,7 @@
 //! file in a lent buffer, or are refused as reading that file would refuse it.
 
 use crate::recording::{
-    event_bytes, judge, judge_events, readable, trailer, Event, Recording, Refusal,
+    event_bytes, judge, judge_events, readable, size, trailer, Event, Recording, Refusal, LIMITS,
 };
 
 /// What is handed to the writer: of the events the first so many threads, kinds and objects.
@@ -33,7 +33,7 @@ impl Handed {
     }
 
     pub fn file_length(&self) -> usize {
-        self.preamble.len() + 4 * self.entries[0] + 8
+        size(self.preamble.len(), self.entries[0])
     }
 
     fn threads(&self) -> Vec<u8> {
@@ -65,8 +65,8 @@ impl Handed {
         let [n, kinds, objects] = self.entries;
         let plain = [
             (10, n != kinds || n != objects),
-            (1, self.file_length() > 4096),
-            (3, n > 512),
+            (1, self.file_length() > LIMITS.bytes),
+            (3, n > LIMITS.events),
             (13, !readable(&self.preamble)),
         ];
         if let Some((number, _)) = plain.iter().find(|(_, fault)| *fault) {
@@ -101,7 +101,6 @@ fn laid_out(preamble: &[u8], threads: &[u8], kinds: &[u8], objects: &[u16]) -> V
         file.extend([*thread, *kind]);
         file.extend(object.to_le_bytes());
     }
-    let n = threads.len();
-    file.extend(trailer(8 + 4 * n as u32, n as u16));
+    file.extend(trailer(threads.len()));
     file
 }

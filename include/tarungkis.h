@@ -28,8 +28,11 @@ extern "C" {
 
 #define TARUNGKIS_MAX_BYTES 4096    /* of a recording */
 #define TARUNGKIS_MAX_EVENTS 512    /* of a recording */
+#define TARUNGKIS_MAX_THREAD 15     /* the highest number of a thread */
+#define TARUNGKIS_MAX_OBJECT 255    /* the highest number of a cell or lock */
 #define TARUNGKIS_AREA_BYTES 65536  /* of a work area */
-#define TARUNGKIS_LINE_BYTES 4096   /* of a buffer for the report, at least */
+#define TARUNGKIS_LINE_BYTES (25 + 6 * TARUNGKIS_MAX_EVENTS) /* of a buffer for the report, at least */
+#define TARUNGKIS_MAX_RACES (TARUNGKIS_MAX_EVENTS * TARUNGKIS_MAX_EVENTS) /* no recording has more */
 #define TARUNGKIS_STACK_BYTES 524288
 
 /* ---- answers
@@ -44,18 +47,18 @@ extern "C" {
 #define TARUNGKIS_IS_REFUSAL(answer) (TARUNGKIS_CASE(answer) < TARUNGKIS_GOOD)
 
 enum tarungkis_case {
-  TARUNGKIS_FILE_SIZE = 1,        /* fewer than 8 or more than 4,096 bytes */
+  TARUNGKIS_FILE_SIZE = 1,        /* fewer than 8 bytes, or more than TARUNGKIS_MAX_BYTES */
   TARUNGKIS_MARK = 2,             /* the last two bytes are not 50 4C hex */
-  TARUNGKIS_EVENT_COUNT = 3,      /* more than 512 events */
+  TARUNGKIS_EVENT_COUNT = 3,      /* more than TARUNGKIS_MAX_EVENTS */
   TARUNGKIS_DISTANCE = 4,         /* the distance is not that of the first event */
   TARUNGKIS_KIND = 5,             /* an event's kind is not 1 to 6 [event] */
-  TARUNGKIS_THREAD = 6,           /* an event's thread is above 15 [event] */
-  TARUNGKIS_OBJECT = 7,           /* an event's cell or lock is above 255, or the thread of a fork or join above 15 [event] */
+  TARUNGKIS_THREAD = 6,           /* an event's thread is above TARUNGKIS_MAX_THREAD [event] */
+  TARUNGKIS_OBJECT = 7,           /* an event's cell or lock is above TARUNGKIS_MAX_OBJECT, or the thread of a fork or join above TARUNGKIS_MAX_THREAD [event] */
   TARUNGKIS_LOCK_HELD = 8,        /* an acquire of a lock that another thread holds [event] */
   TARUNGKIS_NOT_HOLDER = 9,       /* a release of a lock that its thread does not hold [event] */
   TARUNGKIS_LIST_SHORT = 10,      /* the lent list or buffer is too short; the writer: or the lists have different lengths */
   TARUNGKIS_NOT_CONFLICTING = 11, /* a and b are not two conflicting accesses, the lower first */
-  TARUNGKIS_AREA_SHORT = 12,      /* the work area has fewer than 65,536 bytes */
+  TARUNGKIS_AREA_SHORT = 12,      /* the work area has fewer than TARUNGKIS_AREA_BYTES */
   TARUNGKIS_PREAMBLE = 13,        /* the preamble has a byte that is neither 0A nor 20 to 7E hex */
   TARUNGKIS_SELF_OR_SECOND = 15,  /* a fork or join of the event's own thread, or a second fork of one thread [event] */
   TARUNGKIS_ALREADY_BEGUN = 16,   /* a fork of a thread that already has an event [event] */
@@ -100,12 +103,13 @@ uint64_t tarungkis_judge(const uint8_t *file, size_t file_bytes);
 uint64_t tarungkis_observed_write(const uint8_t *file, size_t file_bytes, uint16_t k);
 
 /* Question 2 for all events at once: TARUNGKIS_GIVEN, or refusal 10. With n events, entry k of the list is the answer for k, from 0 to n, so the
- * list needs n + 1 entries (513 are always enough); those behind them are left as they were. */
+ * list needs n + 1 entries (TARUNGKIS_MAX_EVENTS + 1 are always enough); those behind them are left as they were. */
 uint64_t tarungkis_observed_writes(const uint8_t *file, size_t file_bytes, uint16_t *list, size_t list_entries);
 
 /* Question 3: could a and b have met? TARUNGKIS_REPORTED, TARUNGKIS_NOT_REPORTED, or refusals 11, 10, 12. The list needs as many entries as there
- * are events (512 are always enough). A race leaves its witness in the list's front; the entries behind it are left as they were, and all where it
- * is not reported. The work area needs 65,536 bytes, whatever they hold; these are zero then, and those behind them are left as they were. */
+ * are events (TARUNGKIS_MAX_EVENTS are always enough). A race leaves its witness in the list's front; the entries behind it are left as they were,
+ * and all where it is not reported. The work area needs TARUNGKIS_AREA_BYTES, whatever they hold; these are zero then, and those behind them are left
+ * as they were. */
 uint64_t tarungkis_verdict(const uint8_t *file, size_t file_bytes, uint16_t a, uint16_t b, uint16_t *list, size_t list_entries, uint8_t *area,
                            size_t area_bytes);
 
@@ -121,7 +125,7 @@ uint64_t tarungkis_note(const uint8_t *file, size_t file_bytes);
 
 /* ---- the writer: the recording of a preamble and of events, whose threads, kinds and objects (cells, locks or threads) are in three lists of one length.
  * TARUNGKIS_WRITTEN, and the recording is in the buffer's front; the bytes behind it are left as they were. Or refusal 10 where the lists differ in
- * length, then what reading the recording would give, then 10 where the buffer is shorter than it (4,096 bytes are always enough). */
+ * length, then what reading the recording would give, then 10 where the buffer is shorter than it (TARUNGKIS_MAX_BYTES are always enough). */
 uint64_t tarungkis_write_file(const uint8_t *preamble, size_t preamble_bytes, const uint8_t *threads, size_t thread_entries, const uint8_t *kinds,
                               size_t kind_entries, const uint16_t *objects, size_t object_entries, uint8_t *buffer, size_t buffer_bytes);
 
@@ -133,10 +137,10 @@ uint64_t tarungkis_write_file(const uint8_t *preamble, size_t preamble_bytes, co
  *     while ((n = tarungkis_report(file, file_bytes, place, out, sizeof out)) > 0) fwrite(out, 1, n, stdout);
  *
  * It gives 0, and changes nothing, where nothing is left to write (place[0] is 2 then), where `out` has fewer than TARUNGKIS_LINE_BYTES bytes, and
- * where the words are no place in a report: place[0] above 1, place[1] or place[2] above 65,535, or place[3] above 262,144. The words are what comes
- * next (0 the first line, 1 a race or the last line), the pair after which the next race comes, and how many races were written. Of a refused file
- * the one line is written at any place. (From a place that no start leads to, the count may grow beyond 262,144; then it is no place any more.) The bytes of `out`
- * behind those written are left as they were. */
+ * where the words are no place in a report: place[0] above 1, place[1] or place[2] above 65,535, or place[3] above TARUNGKIS_MAX_RACES.
+ * The words are what comes next (0 the first line, 1 a race or the last line), the pair after which the next race comes, and how many races were
+ * written. Of a refused file the one line is written at any place. (From a place that no start leads to, the count may grow beyond that; then it is
+ * no place any more.) The bytes of `out` behind those written are left as they were. */
 size_t tarungkis_report(const uint8_t *file, size_t file_bytes, uint32_t place[4], uint8_t *out, size_t out_bytes);
 
 #ifdef __cplusplus

@@ -11,7 +11,7 @@ use borrow.Author.Tests.{ltb-true, ltb-false}
 use mir.Syntax.{w16, w32}
 use mir.Val.{Fits}
 use Rattle.model.proofs.Tests.{by-cases}
-use Rattle.appending.specs.Decimal.{decimal, spaced}
+use Rattle.appending.specs.Decimal.{decimal, spaced, eventWidth, numberWidth}
 use Rattle.appending.specs.Appended.{Appends, AppendsShort}
 use Rattle.appending.proofs.DecimalLaws.{decimal-one, decimal-more, decimal-few}
 
@@ -104,14 +104,14 @@ module _ (w n : ℕ) (small : n < 10 ^ suc w) {at : ℕ} {out mid : List ℕ} {p
   after-space b = record { appends = appends-then a b; short = let e = decimal-few w n small in let f = a .ends in let g = b .ends in omega arith }
 
 module _ (n : ℕ) {at : ℕ} {out mid : List ℕ} {p : ℕ} where
-  pub number-room : Fits w32 n → Appends (32 ∷ []) at out mid p → at + 11 ≤ length out → p + length (decimal n) ≤ length mid
+  pub number-room : Fits w32 n → Appends (32 ∷ []) at out mid p → at + numberWidth ≤ length out → p + length (decimal n) ≤ length mid
   number-room f a h = behind-space 9 n (omega arith) a h
 
-  pub number-put : Fits w32 n → Appends (32 ∷ []) at out mid p → {out′ : List ℕ} {r : ℕ} → Appends (decimal n) p mid out′ r → AppendsShort 11 (spaced n) at out out′ r
+  pub number-put : Fits w32 n → Appends (32 ∷ []) at out mid p → {out′ : List ℕ} {r : ℕ} → Appends (decimal n) p mid out′ r → AppendsShort numberWidth (spaced n) at out out′ r
   number-put f a b = after-space 9 n (omega arith) a b
 
-  pub event-room : Fits w16 n → Appends (32 ∷ []) at out mid p → at + 6 ≤ length out → p + length (decimal n) ≤ length mid
+  pub event-room : Fits w16 n → Appends (32 ∷ []) at out mid p → at + eventWidth ≤ length out → p + length (decimal n) ≤ length mid
   event-room f a h = behind-space 4 n (omega arith) a h
 
-  pub event-put : Fits w16 n → Appends (32 ∷ []) at out mid p → {out′ : List ℕ} {r : ℕ} → Appends (decimal n) p mid out′ r → AppendsShort 6 (spaced n) at out out′ r
+  pub event-put : Fits w16 n → Appends (32 ∷ []) at out mid p → {out′ : List ℕ} {r : ℕ} → Appends (decimal n) p mid out′ r → AppendsShort eventWidth (spaced n) at out out′ r
   event-put f a b = after-space 4 n (omega arith) a b

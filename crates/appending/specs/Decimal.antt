@@ -29,3 +29,10 @@ pub record InDecimal (n : ℕ) (l : List ℕ) : Type 0 where
 -- a number after a space
 abbrev pub spaced : ℕ → List ℕ
 spaced n = 32 ∷ decimal n
+
+-- the most bytes of that: for an event's number, which has 16 bits, and for one of 32 bits
+abbrev pub eventWidth : ℕ
+eventWidth = 6
+
+abbrev pub numberWidth : ℕ
+numberWidth = 11

@@ -4,8 +4,11 @@ ghost use Prim.Native.Nat.{_+_, _≤_, _<_};
 ghost use mathlib.Core.Path.{_≡_};
 ghost use mathlib.Core.List.{_∷_, []};
 ghost use lib.ListN.{length};
-ghost use Rattle.appending.specs.Decimal.{decimal, spaced};
+ghost use Rattle.appending.specs.Decimal.{decimal, spaced, eventWidth, numberWidth};
 ghost use Rattle.appending.specs.Appended.{Appends, AppendsShort};
+
+// The most bytes of an event's number after a space.
+pub const EVENT_WIDTH: usize = 6;
 
 pub fn put_byte(out: &mut [u8], at: usize, b: u8) -> usize
     requires { ⌜ at + 1 ≤ length (now out) ⌝ }
@@ -50,17 +53,17 @@ pub fn put_decimal(out: &mut [u8], at: usize, n: u32) -> usize
 
 // A number after a space.
 pub fn put_number(out: &mut [u8], at: usize, n: u32) -> usize
-    requires { ⌜ at + 11 ≤ length (now out) ⌝ }
-    ensures { λ r. ⌜ AppendsShort 11 (spaced n) at (now (out .entry)) (now (out .exit)) r ⌝ }
+    requires { ⌜ at + numberWidth ≤ length (now out) ⌝ }
+    ensures { λ r. ⌜ AppendsShort numberWidth (spaced n) at (now (out .entry)) (now (out .exit)) r ⌝ }
 {
     let end = put_byte(out, at, b' ');
     put_decimal(out, end, n)
 }
 
-// An event's number after a space: a line of 512 of them must fit, so that their room counts.
+// An event's number after a space: a line of as many as there may be events must fit, so that their room counts.
 pub fn put_event(out: &mut [u8], at: usize, k: u16) -> usize
-    requires { ⌜ at + 6 ≤ length (now out) ⌝ }
-    ensures { λ r. ⌜ AppendsShort 6 (spaced k) at (now (out .entry)) (now (out .exit)) r ⌝ }
+    requires { ⌜ at + eventWidth ≤ length (now out) ⌝ }
+    ensures { λ r. ⌜ AppendsShort eventWidth (spaced k) at (now (out .entry)) (now (out .exit)) r ⌝ }
 {
     let end = put_byte(out, at, b' ');
     put_decimal(out, end, k as u32)

@@ -9,11 +9,15 @@ use text::byte;
 use text::count;
 use text::word;
 
-// A list with more entries than a recording has events has a fault among its first 513, so what is behind these is not asked for.
-const NUMBERS: usize = 600;
+// The question, two events and a list. One with more entries than a recording has events has a fault among its first so many, so what is behind
+// these is not asked for.
+const NUMBERS: usize = 3 + Recording::PLACES;
 
-// A line of so many numbers, and one byte more than a recording may have.
-const INPUT_BYTES: usize = 65536;
+// A line of so many numbers, with what stands behind each.
+const LINE_BYTES: usize = appending::EVENT_WIDTH * NUMBERS;
+
+// Such a line, and one byte more than a recording may have.
+const INPUT_BYTES: usize = LINE_BYTES + Recording::MAX_BYTES + 1;
 
 // The line of a report's race.
 fn say_race(a: u16, b: u16, witness: &[u16], n: u16) {
@@ -56,6 +60,10 @@ fn ask(line: &[u8], file: &[u8]) {
 // The line, and the recording behind it.
 fn answer(bytes: &[u8]) {
     let end = text::until(bytes, 0, b'\n');
+    if LINE_BYTES <= end {
+        io::write_all(STDERR_FILENO, b"ask: the line is too long\n");
+        return;
+    }
     if end < bytes.len() {
         ask(&bytes[0..end], &bytes[end + 1..]);
     }

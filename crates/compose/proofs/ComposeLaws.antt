@@ -4,7 +4,7 @@ use native.Mathlib.Omega.{arith}
 use mathlib.Core.Path.{_≡_, refl, sym, _∙_, ap}
 use mathlib.Core.Option.{Option, none, some}
 use mathlib.Core.List.{List}
-use lib.ListN.{length, take, drop, length-append}
+use lib.ListN.{length, take, drop, replicate, length-append, length-replicate}
 use Rattle.model.specs.Trace.{Trace, threadList, kindList, objectList}
 use Rattle.model.specs.Lists.{inFront}
 use Rattle.limits.specs.declared.Refusal.{Refusal}
@@ -15,7 +15,7 @@ use Rattle.appending.specs.Appended.{Appends}
 use Rattle.writing.specs.Written.{fileWith}
 use Rattle.writing.proofs.ListLaws.{lists-back, lists-even}
 use Rattle.wording.specs.declared.Reason.{Reason}
-use Rattle.composing.specs.Texts.{lines, lineOf, joined, Makes, ReadsText, good, bad-line as bad-text}
+use Rattle.composing.specs.Texts.{textBytes, lines, lineOf, joined, Makes, Lent, ReadsText, good, bad-line as bad-text}
 use Rattle.composing.specs.declared.Text.{Text}
 use Rattle.composing.specs.declared.Text.the-variants.{Bad, Good}
 use Rattle.composing.proofs.AnswerLaws.{makes-few}
@@ -41,6 +41,13 @@ pub about-event : (text : List ℕ) (a : ℕ) (v e : EventNumber) → v ≡ e �
 about-event text a v e is k q n i = let z : e ≡ At k = sym is ∙ q in rw z i
 
 -- ---- the parts of a text
+
+-- over any size, since the size that there is would be counted out
+lent-anew : (n : ℕ) (text : List ℕ) → length text ≤ n → Lent text (replicate n 0) (replicate n 0) (replicate n 0) (replicate n 0)
+lent-anew n text h = let l : length text ≤ length (replicate {A = ℕ} n 0) = rw (length-replicate {A = ℕ} n 0) h in record { preamble = l; threads = l; kinds = l; objects = l }
+
+pub text-lent : (text : List ℕ) → length text ≤ textBytes → Lent text (replicate textBytes 0) (replicate textBytes 0) (replicate textBytes 0) (replicate textBytes 0)
+text-lent text h = lent-anew textBytes text h
 
 answer-recorded : (p : List ℕ) (es : Trace) (file : List ℕ) → answerWrite p (threadList es) (kindList es) (objectList es) file ≡ recorded p es file
 unfolding answerWrite handed

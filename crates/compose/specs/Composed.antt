@@ -18,10 +18,6 @@ use Rattle.writing.specs.declared.Written.the-variants.{Refused as NotWritten, 
 use Rattle.compose.specs.declared.Composed.{Composed}
 use Rattle.compose.specs.declared.Composed.the-variants.{BadLine, Refused, Recording}
 
--- the most bytes of a text
-abbrev pub textBytes : ℕ
-textBytes = 32768
-
 -- what the writer gives for the recording with this preamble and these events, and the lent file after it
 abbrev pub recorded : List ℕ → Trace → List ℕ → Written × List ℕ
 recorded p es file = handed (fileWith p es) file

@@ -1,4 +1,5 @@
 // The compose program: reads a text from standard input and writes the recording that it makes to standard output.
+use composing::TEXT_BYTES;
 use composing::Text;
 use input::Input;
 use libc::STDERR_FILENO;
@@ -12,11 +13,8 @@ ghost use mathlib.Core.Path.{_≡_};
 ghost use Prim.Native.Nat.{_≤_};
 ghost use lib.ListN.{length};
 ghost use Rattle.limits.specs.Refusals.{eventOf};
-ghost use Rattle.composing.specs.Texts.{lines};
-ghost use Rattle.compose.specs.Composed.{textBytes, lineAbout, Composes, WritesParts};
-
-// No recording needs a longer text: the longest is that of 4,088 line feeds as preamble, in 4,089 note lines of 6 bytes each.
-const TEXT_BYTES: usize = 32768;
+ghost use Rattle.composing.specs.Texts.{textBytes, lines};
+ghost use Rattle.compose.specs.Composed.{lineAbout, Composes, WritesParts};
 
 // One byte more than a text may have is enough to refuse it.
 const INPUT_BYTES: usize = TEXT_BYTES + 1;

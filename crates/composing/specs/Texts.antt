@@ -1,11 +1,12 @@
 -- What reading a text gives.
-use Prim.Native.Nat.{ℕ, _+_, _-_, _≤_}
+use Prim.Native.Nat.{ℕ, _+_, _-_, _*_, _≤_}
 use mathlib.Core.Path.{_≡_}
 use mathlib.Core.Bool.{cond}
 use mathlib.Core.List.{List, [], _∷_, _++_, map, List·Memᴰ}
 use lib.ListN.{length, getD, take}
 use lib.Dec.{eqb}
 use Rattle.model.specs.Trace.{Event, Trace, threadList, kindList, objectList}
+use Rattle.limits.specs.Limits.{maxBytes}
 use Rattle.format.specs.Readable.{lineFeed, Readable}
 use Rattle.appending.specs.Appended.{Appends}
 use Rattle.wording.specs.Lines.{noteLine, eventLine, InRange, isComment}
@@ -13,6 +14,10 @@ use Rattle.wording.specs.Reasons.{reasonOf}
 use Rattle.wording.specs.declared.Reason.{Reason}
 use Rattle.composing.specs.declared.Text.{Text}
 use Rattle.composing.specs.declared.Text.the-variants.{Bad, Good}
+
+-- the most bytes of a text: eight for each byte of the longest file. Six are enough for its text (showing: text-short); the others are for comments
+abbrev pub textBytes : ℕ
+textBytes = 8 * maxBytes
 
 -- ---- the lines of a text
 

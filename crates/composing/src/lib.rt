@@ -1,5 +1,6 @@
 // Reads a recording from text: note lines, then event lines, and comments anywhere. No other crate reads such a text.
 use format::NoteByte;
+use limits::Recording;
 use wording::COMMENT;
 use wording::Line;
 use wording::NOTE_BYTES;
@@ -10,6 +11,9 @@ ghost use lib.ListN.{length};
 ghost use Rattle.composing.specs.Texts.{lines, lineOf, Lent, ReadsText};
 ghost use Rattle.composing.specs.Parts.{noteBytes, LineEnd, NextLine, Skips, NextSaid, NotesUpTo, ListsLent, ReadsEvents, StopsAt, BadAt};
 ghost use Rattle.appending.specs.Appended.{Appends};
+
+// The most bytes of a text: eight for each byte of the longest file. Six are enough for its text; the others are for comments.
+pub const TEXT_BYTES: usize = 8 * Recording::MAX_BYTES;
 
 // What a text is: the number of its first bad line and why it is bad, or how many note lines, bytes of preamble and events it has.
 pub enum Text {

@@ -52,7 +52,7 @@ trailer s = drop (length s - trailerBytes) s
 
 -- ---- what refusals 1 to 4 and 13 ask
 
--- refusal 1: 8 to 4,096 bytes
+-- refusal 1: from the trailer's bytes to the most
 pub record Sized (s : List ℕ) : Type 0 where
   pub least : trailerBytes ≤ length s
   pub most : length s ≤ maxBytes

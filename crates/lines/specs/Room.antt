@@ -1,12 +1,17 @@
 -- The room that a line needs in a lent buffer.
-use Prim.Native.Nat.{ℕ, _+_, _≤_}
+use Prim.Native.Nat.{ℕ, _+_, _*_, _≤_}
 use mathlib.Core.List.{List}
 use lib.ListN.{length}
 use Rattle.model.specs.Good.{maxEvents}
+use Rattle.appending.specs.Decimal.{eventWidth}
 
--- no line is longer than this
+-- the most bytes of the line of a race as far as its witness: `race`, two numbers, ` witness`
+abbrev pub headWidth : ℕ
+headWidth = 12 + 2 * eventWidth
+
+-- no line is longer than that of a race whose witness has a number for each event
 abbrev pub lineBytes : ℕ
-lineBytes = 4096
+lineBytes = headWidth + eventWidth * maxEvents + 1
 
 -- the buffer has room for a line behind its first `at` bytes
 abbrev pub Room : ℕ → List ℕ → Type 0

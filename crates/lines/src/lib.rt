@@ -1,17 +1,26 @@
 // The lines of the nightly report, written into a lent buffer behind the bytes that are in use. Each function takes how many are in use and
 // gives how many are then.
+use appending::EVENT_WIDTH;
 use limits::EventNumber;
+use limits::Recording;
 use limits::Refusal;
 ghost use Prim.Native.Nat.{_+_, _*_, _≤_};
 ghost use lib.ListN.{length, take};
+ghost use Rattle.appending.specs.Decimal.{eventWidth};
 ghost use Rattle.appending.specs.Appended.{Appends, AppendsShort};
 ghost use Rattle.lines.specs.Lines.{spacedAll, raceHead, atEvent, eventsLine, raceLine, racesLine, refusedLine};
-ghost use Rattle.lines.specs.Room.{Room, RaceRoom};
+ghost use Rattle.lines.specs.Room.{headWidth, Room, RaceRoom};
+
+// The most bytes of the line of a race as far as its witness: `race`, two numbers, ` witness`.
+const HEAD_WIDTH: usize = 12 + 2 * EVENT_WIDTH;
+
+// The room in which every line fits: the longest is that of a race whose witness has a number for each event.
+pub const LINE_BYTES: usize = HEAD_WIDTH + EVENT_WIDTH * Recording::MAX_EVENTS + 1;
 
 // The first n numbers of a list, each after a space.
 fn put_events(out: &mut [u8], at: usize, list: &[u16], n: u16) -> usize
-    requires { ⌜ (at + 6 * n ≤ length (now out)) × (n ≤ length (now list)) ⌝ }
-    ensures { λ r. ⌜ AppendsShort (6 * n) (spacedAll (take n (now (list .entry)))) at (now (out .entry)) (now (out .exit)) r ⌝ }
+    requires { ⌜ (at + eventWidth * n ≤ length (now out)) × (n ≤ length (now list)) ⌝ }
+    ensures { λ r. ⌜ AppendsShort (eventWidth * n) (spacedAll (take n (now (list .entry)))) at (now (out .entry)) (now (out .exit)) r ⌝ }
 {
     let last = n as usize;
     let mut end = at;
@@ -36,8 +45,8 @@ pub fn events(out: &mut [u8], at: usize, n: u16, m: u32) -> usize
 
 // The line of a race as far as its witness.
 fn put_race(out: &mut [u8], at: usize, a: u16, b: u16) -> usize
-    requires { ⌜ at + 24 ≤ length (now out) ⌝ }
-    ensures { λ r. ⌜ AppendsShort 24 (raceHead a b) at (now (out .entry)) (now (out .exit)) r ⌝ }
+    requires { ⌜ at + headWidth ≤ length (now out) ⌝ }
+    ensures { λ r. ⌜ AppendsShort headWidth (raceHead a b) at (now (out .entry)) (now (out .exit)) r ⌝ }
 {
     let word = appending::put_word(out, at, b"race");
     let lower = appending::put_event(out, word, a);

@@ -52,7 +52,7 @@ pub record WellFormed (t : Trace) : Type 0 where
   pub forked-first : (k : ℕ) → Valid t k → ¬ AlreadyBegun t k
   pub joined-last : (k : ℕ) → Valid t k → ¬ AlreadyJoined t k
 
--- the limits: at most 512 events, threads 0 to 15, cells and locks 0 to 255, kinds 1 to 6
+-- the limits: the most events, the highest thread, the highest cell or lock
 abbrev pub maxEvents : ℕ
 maxEvents = 512
 

@@ -14,8 +14,8 @@ ghost use Rattle.report.specs.Writing.{Starting, Writing};
 // One byte more than a file may have is enough to refuse it.
 const INPUT_BYTES: usize = Recording::MAX_BYTES + 1;
 
-// The report is written in blocks of at most this many bytes.
-const BLOCK_BYTES: usize = 65536;
+// The report is written in blocks of some lines: eight of the longest.
+const BLOCK_BYTES: usize = 8 * lines::LINE_BYTES;
 
 // Writes the first n bytes of a buffer, and says whether that succeeded.
 fn put(out: &[u8], n: usize) -> bool

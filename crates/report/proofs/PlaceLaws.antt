@@ -1,5 +1,5 @@
 -- The ways through the functions that go from place to place.
-use Prim.Native.Nat.{ℕ, _*_, _≤_, _<_}
+use Prim.Native.Nat.{ℕ, _≤_, _<_}
 use native.Mathlib.Nat.{zero-add}
 use native.Mathlib.Omega.{arith}
 use mathlib.Core.Path.{_≡_, sym, _∙_, ap}
@@ -10,11 +10,10 @@ use lib.Dec.{leb}
 use borrow.Author.Tests.{not-true, not-false, leb-true, le-leb, lt-leb}
 use mir.Val.{Fits}
 use mir.Syntax.{w16}
-use Rattle.model.specs.Good.{maxEvents}
 use Rattle.model.specs.Lists.{inFront}
 use Rattle.model.proofs.Tests.{both}
 use Rattle.lines.specs.Room.{lineBytes}
-use Rattle.report.specs.Rest.{linesAt, fill}
+use Rattle.report.specs.Rest.{maxRaces, linesAt, fill}
 use Rattle.report.specs.Places.{positionOf, Place, isPlace, answerLines}
 use Rattle.report.specs.Writing.{bytesOf, placed, Writes}
 use Rattle.report.specs.declared.Position.{Position}
@@ -26,18 +25,18 @@ use Rattle.report.specs.declared.Progress.the-variants.{Ended, More}
 module _ (w : List ℕ) where
   pub place-true : isPlace w ≡ true → Place w
   place-true e =
-      let p = both _ (leb (getD w 3 0) (maxEvents * maxEvents)) e in
+      let p = both _ (leb (getD w 3 0) maxRaces) e in
       let q = both _ (leb (getD w 2 0) 65535) (p .0) in
       let r = both (leb (getD w 0 0) 1) (leb (getD w 1 0) 65535) (q .0) in
       record {
         next = leb-true (getD w 0 0) 1 (r .0);
         lower = leb-true (getD w 1 0) 65535 (r .1);
         higher = leb-true (getD w 2 0) 65535 (q .1);
-        count = leb-true (getD w 3 0) (maxEvents * maxEvents) (p .1);
+        count = leb-true (getD w 3 0) maxRaces (p .1);
       }
 
   pub true-place : Place w → isPlace w ≡ true
-  true-place p = rw (le-leb (getD w 0 0) 1 (p .next), le-leb (getD w 1 0) 65535 (p .lower), le-leb (getD w 2 0) 65535 (p .higher), le-leb (getD w 3 0) (maxEvents * maxEvents) (p .count))
+  true-place p = rw (le-leb (getD w 0 0) 1 (p .next), le-leb (getD w 1 0) 65535 (p .lower), le-leb (getD w 2 0) 65535 (p .higher), le-leb (getD w 3 0) maxRaces (p .count))
 
   module _ (e : isPlace w ≡ true) where
     pub lower-fits : Fits w16 (getD w 1 0)
@@ -70,7 +69,7 @@ module _ (s place out : List ℕ) where
       pub a-place : isPlace place ≡ true
       a-place = sym is ∙ not-false b e
 
-      pub place-few : (p : Position) → p ≡ positionOf place → p .count ≤ maxEvents * maxEvents
+      pub place-few : (p : Position) → p ≡ positionOf place → p .count ≤ maxRaces
       place-few p q = rw q (place-true place a-place .count)
 
       -- the lines that were written are the answer

@@ -1,5 +1,5 @@
 -- From place to place: the answers, one after the other, write the report.
-use Prim.Native.Nat.{ℕ, zero, suc, pred, _+_, _-_, _*_, _≤_, _<_}
+use Prim.Native.Nat.{ℕ, zero, suc, pred, _+_, _-_, _≤_, _<_}
 use native.Mathlib.Omega.{arith}
 use native.Mathlib.Nat.{zero-add}
 use mathlib.Core.Path.{_≡_, refl, sym, _∙_, ap}
@@ -11,7 +11,7 @@ use lib.Dec.{eqb, ltb, leb}
 use borrow.Author.Tests.{eqb-true, eqb-false, leb-true, le-leb}
 use Rattle.model.specs.Trace.{Trace}
 use Rattle.model.specs.Listing.{Race}
-use Rattle.model.specs.Good.{Good, maxEvents}
+use Rattle.model.specs.Good.{Good}
 use Rattle.model.proofs.Tests.{by-cases, both, true-both, false-test, test-false}
 use Rattle.model.proofs.Lists.{front-taken}
 use Rattle.decision.specs.Decision.{races, nextRace}
@@ -22,7 +22,7 @@ use Rattle.judging.proofs.FileLaws.{meaning}
 use Rattle.lines.specs.Lines.{eventsLine, raceHead, raceLine, racesLine, refusedLine}
 use Rattle.lines.specs.Room.{lineBytes}
 use Rattle.report.specs.Report.{raceLines, reportBy, report}
-use Rattle.report.specs.Rest.{Line, joined, after, atStart, behindFirst, behindRace, countedLines, racesLeft, racesFrom, linesFrom, linesBy, linesAt, fill}
+use Rattle.report.specs.Rest.{Line, joined, after, maxRaces, atStart, behindFirst, behindRace, countedLines, racesLeft, racesFrom, linesFrom, linesBy, linesAt, fill}
 use Rattle.report.specs.Places.{positionOf, placeOf, Place, isPlace, answered, answerLines, restAt, wrote, GoesOn, ZeroExactly, written, WritesReport}
 use Rattle.report.specs.Writing.{OnNext}
 use Rattle.report.specs.declared.Position.{Position}
@@ -211,7 +211,7 @@ no-line : (l : List Line) → length l ≤ 0 → joined l ≡ []
 no-line [] h = refl
 no-line (x ∷ l) h = absurd (omega arith)
 
-module _ (s : List ℕ) (n : ℕ) (few : n ≤ maxEvents * maxEvents) where
+module _ (s : List ℕ) (n : ℕ) (few : n ≤ maxRaces) where
   comes-place : (q : Position) → Comes s n q → Place (placeOf (some q))
   comes-place q r = let c = r .count in record { next = r .next; lower = r .lower; higher = r .higher; count = omega arith }
 

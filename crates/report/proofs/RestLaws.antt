@@ -21,7 +21,7 @@ use Rattle.decision.proofs.ListingExact.{races-listing}
 use Rattle.lines.specs.Lines.{raceLine, racesLine}
 use Rattle.lines.specs.Room.{lineBytes}
 use Rattle.report.specs.Report.{firstLine}
-use Rattle.report.specs.Rest.{Line, atStart, behindFirst, behindRace, racesLeft, racesFrom, linesFrom, fill}
+use Rattle.report.specs.Rest.{Line, maxRaces, atStart, behindFirst, behindRace, racesLeft, racesFrom, linesFrom, fill}
 use Rattle.report.specs.Writing.{Countable}
 use Rattle.report.specs.declared.Position.{Position}
 
@@ -47,7 +47,7 @@ one-race : (a b : ℕ) (o : Option (List ℕ)) → length (raceWith a b o) ≤ 1
 one-race a b none = omega arith
 one-race a b (some ρ) = omega arith
 
-few-races : (t : Trace) → length t ≤ maxEvents → length (races t) ≤ maxEvents * maxEvents
+few-races : (t : Trace) → length t ≤ maxEvents → length (races t) ≤ maxRaces
 unfolding races conflictingPairs
 few-races t h =
     let n = length-numbers t in
@@ -61,11 +61,11 @@ rest-short : {A : Type 0} (of : A → List ℕ) (k : List ℕ) (l : List A) → 
 rest-short of k [] = omega arith
 rest-short of k (x ∷ l) = let ih = rest-short of k l in by-cases (isAfter k (of x)) (λ e. rw e (omega arith)) (λ e. rw e (omega arith))
 
-pub few-left : (t : Trace) → length t ≤ maxEvents → (p : Position) → length (racesLeft t p) ≤ maxEvents * maxEvents
+pub few-left : (t : Trace) → length t ≤ maxEvents → (p : Position) → length (racesLeft t p) ≤ maxRaces
 unfolding racesLeft
 few-left t h p = let r = rest-short pairOf (pair (p .lower) (p .higher)) (races t) in let f = few-races t h in omega arith
 
-pub few-countable : (t : Trace) → length t ≤ maxEvents → (p : Position) → p .count ≤ maxEvents * maxEvents → Countable t p
+pub few-countable : (t : Trace) → length t ≤ maxEvents → (p : Position) → p .count ≤ maxRaces → Countable t p
 unfolding Countable
 few-countable t h p c = let f = few-left t h p in omega arith
 

@@ -1,5 +1,5 @@
 -- The ways through the functions that write the report.
-use Prim.Native.Nat.{ℕ, _+_, _-_, _*_, _≤_, _<_}
+use Prim.Native.Nat.{ℕ, _+_, _-_, _≤_, _<_}
 use native.Mathlib.Nat.{sub-zero}
 use native.Mathlib.Omega.{arith}
 use mathlib.Core.Path.{_≡_, refl, sym, _∙_, ap}
@@ -31,7 +31,7 @@ use Rattle.appending.specs.Appended.{Appends}
 use Rattle.appending.proofs.AppendLaws.{appends-nothing, appends-then}
 use Rattle.lines.specs.Room.{lineBytes, Room, RaceRoom}
 use Rattle.report.specs.Report.{firstLine}
-use Rattle.report.specs.Rest.{behindFirst, racesFrom, linesFrom, linesAt, fill}
+use Rattle.report.specs.Rest.{maxRaces, behindFirst, racesFrom, linesFrom, linesAt, fill}
 use Rattle.report.specs.Writing.{Countable, Starting, Writing, nextOf, Advances, Writes, Fills}
 use Rattle.report.specs.declared.Position.{Position}
 use Rattle.report.specs.declared.Progress.{Progress}
@@ -42,7 +42,7 @@ use Rattle.report.proofs.RestLaws.{few-countable, fill-stops, fill-goes
 
 -- a good one's table is ready
 pub good-starting : {f : Option Refusal} {t : Trace} {rows rows′ : List ℕ} {x : Opened} → Opens f t rows rows′ x → (n : ℕ) → x ≡ Words n
-    → (p : Position) → p .count ≤ maxEvents * maxEvents → {out : List ℕ} → Room 0 out → Starting (take n rows′) p out
+    → (p : Position) → p .count ≤ maxRaces → {out : List ℕ} → Room 0 out → Starting (take n rows′) p out
 good-starting {rows′ = rows′} o n q p c h = let l = opened-linked o n q in record { links = l; countable = few-countable (trace (take n rows′)) (l .good .size) p c; room = h }
 
 module _ (s : List ℕ) {rows rows′ : List ℕ} {x : Opened} (o : Opens (refusalOf s) (eventsOf s) rows rows′ x) (p : Position) {out out′ : List ℕ} where

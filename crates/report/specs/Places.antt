@@ -1,5 +1,5 @@
 -- A report in buffer after buffer: from place to place.
-use Prim.Native.Nat.{ℕ, _*_, _≤_}
+use Prim.Native.Nat.{ℕ, _≤_}
 use mathlib.Core.Path.{_≡_}
 use mathlib.Core.Bool.{Bool, cond, _&&_}
 use mathlib.Core.Option.{Option, none, some}
@@ -8,10 +8,9 @@ use mathlib.Core.List.{List, [], _∷_, _++_, List·Memᴰ}
 use lib.ListN.{length, take, getD}
 use lib.Dec.{leb}
 use Rattle.model.specs.Lists.{inFront}
-use Rattle.model.specs.Good.{maxEvents}
 use Rattle.lines.specs.Room.{lineBytes}
 use Rattle.report.specs.Report.{report}
-use Rattle.report.specs.Rest.{joined, atStart, linesAt, fill}
+use Rattle.report.specs.Rest.{joined, maxRaces, atStart, linesAt, fill}
 use Rattle.report.specs.declared.Position.{Position}
 
 -- ---- a place: four words
@@ -31,11 +30,11 @@ pub record Place (w : List ℕ) : Type 0 where
   pub next : getD w 0 0 ≤ 1
   pub lower : getD w 1 0 ≤ 65535
   pub higher : getD w 2 0 ≤ 65535
-  pub count : getD w 3 0 ≤ maxEvents * maxEvents
+  pub count : getD w 3 0 ≤ maxRaces
 
 -- are they?
 abbrev pub isPlace : List ℕ → Bool
-isPlace w = leb (getD w 0 0) 1 && leb (getD w 1 0) 65535 && leb (getD w 2 0) 65535 && leb (getD w 3 0) (maxEvents * maxEvents)
+isPlace w = leb (getD w 0 0) 1 && leb (getD w 1 0) 65535 && leb (getD w 2 0) 65535 && leb (getD w 3 0) maxRaces
 
 -- ---- an answer: how many bytes were written, the place after it, the buffer after it
 

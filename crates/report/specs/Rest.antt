@@ -1,10 +1,11 @@
 -- What is left of a report from a position on, line by line, and as many of these lines as surely fit in a buffer.
-use Prim.Native.Nat.{ℕ, _+_, _-_}
+use Prim.Native.Nat.{ℕ, _+_, _-_, _*_}
 use mathlib.Core.Bool.{cond}
 use mathlib.Core.Option.{Option, none, some}
 use mathlib.Core.List.{List, [], _∷_, _++_}
 use lib.ListN.{length}
 use lib.Dec.{eqb, ltb}
+use Rattle.model.specs.Good.{maxEvents}
 use Rattle.model.specs.Trace.{Trace}
 use Rattle.model.specs.Lists.{pair}
 use Rattle.model.specs.Listing.{Race, pairOf}
@@ -33,6 +34,10 @@ after from none = []
 after from (some p) = from p
 
 -- ---- of a good file
+
+-- no recording has more races than this: pairs of events
+abbrev pub maxRaces : ℕ
+maxRaces = maxEvents * maxEvents
 
 -- the position in front of the first line
 abbrev pub atStart : Position

@@ -1,24 +1,21 @@
 // The nightly report of a file, in a lent buffer: as many lines as surely fit, from place to place.
 use limits::Recording;
+use lines::LINE_BYTES;
 use opening::Opened;
 use races::Handed;
 ghost use Prim.Native.Nat.{_*_, _≤_};
 ghost use mathlib.Core.Path.{_≡_};
 ghost use mathlib.Core.Bool.{true};
-ghost use Rattle.model.specs.Good.{maxEvents};
 ghost use Rattle.table.specs.Table.{trace, Linked};
 ghost use Rattle.appending.specs.Appended.{Appends};
 ghost use Rattle.lines.specs.Room.{Room};
 ghost use Rattle.report.specs.Report.{firstLine};
-ghost use Rattle.report.specs.Rest.{atStart, racesFrom, linesFrom, linesAt};
+ghost use Rattle.report.specs.Rest.{maxRaces, atStart, racesFrom, linesFrom, linesAt};
 ghost use Rattle.report.specs.Places.{positionOf, isPlace, answerLines};
 ghost use Rattle.report.specs.Writing.{Starting, Writing, placed, Advances, Writes, Fills};
 
-// The room in which every line fits.
-const LINE_BYTES: usize = 4096;
-
 // No recording has more races than this: pairs of events.
-const MAX_RACES: u32 = 262144;
+const MAX_RACES: u32 = (Recording::MAX_EVENTS * Recording::MAX_EVENTS) as u32;
 
 // A position in the report of a good file: what comes next, 0 for the first line and 1 for a race's or the last; the two numbers after which
 // the next race comes, and how many races stand before it.
@@ -140,7 +137,7 @@ fn new_block(table: &[u16], p: Position, out: &mut [u8]) -> Progress
 
 // The lines of a file's report from a position on, as many as surely fit, in the front of a buffer.
 fn lines_at(file: &[u8], p: Position, out: &mut [u8]) -> Progress
-    requires { ⌜ Room 0 (now out) × (p .count ≤ maxEvents * maxEvents) ⌝ }
+    requires { ⌜ Room 0 (now out) × (p .count ≤ maxRaces) ⌝ }
     ensures { λ r. ⌜ Writes (linesAt (now (file .entry)) p) (now (out .entry)) (now (out .exit)) r ⌝ }
 {
     let mut rows = [0u16; table::ROOM];

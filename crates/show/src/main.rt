@@ -1,4 +1,5 @@
 // The show program: reads a recording from standard input and writes its text to standard output.
+use composing::TEXT_BYTES;
 use input::Input;
 use libc::STDERR_FILENO;
 use libc::STDOUT_FILENO;
@@ -38,7 +39,7 @@ fn put(text: &[u8]) {
 
 // Writes the text of a file, or says why there is none.
 fn answer(file: &[u8]) {
-    let mut text = [0u8; showing::TEXT_BYTES];
+    let mut text = [0u8; TEXT_BYTES];
     match showing::show_text(file, &mut text) {
         Shown::Refused(r) => say_refused(r),
         Shown::Text(n) => put(&text[0..n]),

@@ -32,14 +32,14 @@ use Rattle.writing.proofs.WriteLaws.{refused-no-bytes}
 use Rattle.writing.proofs.ReadsBack.{reads-back}
 use Rattle.writing.proofs.WritesAgain.{writes-again, plain-today}
 use Rattle.wording.specs.Lines.{noteLine, eventLine, InRange, isComment}
-use Rattle.composing.specs.Texts.{lines, said, joined, Makes}
-use Rattle.showing.specs.Shown.{notesOf, linesWith, textFrom, textWith, textOf, textBytes, shown, Shows, answerShow}
+use Rattle.composing.specs.Texts.{textBytes, lines, said, joined, Makes}
+use Rattle.showing.specs.Shown.{notesOf, linesWith, textFrom, textWith, textOf, shown, Shows, answerShow}
 use Rattle.showing.specs.RoundTrips.{MakesAgain, WhatIsShown, Ended, WhatIsComposed}
 use Rattle.showing.specs.declared.Shown.{Shown}
 use Rattle.showing.specs.declared.Shown.the-variants.{Text}
 use Rattle.showing.proofs.TextLaws.{Whole, lines-text, text-lines, lines-whole, joined-notes, notes-joined, joined-in, notes-whole}
 use Rattle.showing.proofs.LineLaws.{whole-note, lines-with-whole, lines-said}
-use Rattle.showing.proofs.ShowLaws.{text-short}
+use Rattle.showing.proofs.ShowLaws.{text-fits}
 use Rattle.showing.proofs.ShowExact.{show-exactly}
 
 -- ---- the text of a good file
@@ -81,7 +81,7 @@ module _ (s : List ℕ) (g : IsGoodFile s) where
       rw (joined-notes (preamble s), writes-again eventBytes (omega arith) s b (g .layout) (plain-today s), meaning s none .1 g, le-ltb (length buffer) (length s) h)
 
   makes-again : AllBytes s → MakesAgain s (textOf s)
-  makes-again b = record { short = text-short s g; makes = makes-notes; again = file-again b }
+  makes-again b = record { short = text-fits s g; makes = makes-notes; again = file-again b }
 
 module _ (s : List ℕ) (b : AllBytes s) (out : List ℕ) (n : ℕ) (after : List ℕ) where
   front-is : {x : Shown × List ℕ} → Shows s out x → x ≡ (Text n, after) → MakesAgain s (take n after)

@@ -12,7 +12,8 @@ use Rattle.model.specs.Rows.{row, nothing}
 use Rattle.limits.specs.Refusals.{refuses, answers}
 use Rattle.limits.specs.declared.Refusal.the-variants.{ListShort}
 use Rattle.judging.proofs.FileLaws.{question-asked}
-use Rattle.showing.specs.Shown.{textOf, textBytes, Shows, answerShow}
+use Rattle.composing.specs.Texts.{textBytes}
+use Rattle.showing.specs.Shown.{textOf, Shows, answerShow}
 use Rattle.showing.specs.declared.Shown.{Shown}
 use Rattle.showing.specs.declared.Shown.the-variants.{Text}
 

@@ -19,7 +19,8 @@ use Rattle.format.specs.declared.File.{File}
 use Rattle.format.specs.declared.File.the-variants.{Refused as FileRefused, Good as FileGood}
 use Rattle.judging.specs.Judged.{eventsOf, refusalOf, IsGoodFile}
 use Rattle.judging.proofs.FileLaws.{judged-refused, judged-clean, judged-good, judged-placed}
-use Rattle.showing.specs.Shown.{textOf, textBytes, answerShow}
+use Rattle.composing.specs.Texts.{textBytes}
+use Rattle.showing.specs.Shown.{textOf, answerShow}
 use Rattle.showing.specs.Pieces.{notesText, eventsText, EventsLent, TextLent}
 use Rattle.showing.specs.declared.Shown.the-variants.{Refused, Text}
 use Rattle.showing.proofs.LineLaws.{notes-few, all-events-few, text-parts}
@@ -36,13 +37,16 @@ module _ (s : List ℕ) (g : IsGoodFile s) where
       omega arith
 
   -- a text has at most six bytes for each byte of its file
-  pub text-short : length (textOf s) ≤ textBytes
+  pub text-short : length (textOf s) ≤ 6 * length s
   text-short =
       let b = bytes in
-      let m = g .layout .sized .most in
       let p = notes-few (preamble s) in
       let e = all-events-few (eventsOf s) (g .good) in
       rw (text-parts (preamble s) (eventsOf s), length-append) (omega arith)
+
+  -- and so no more than any text may have
+  pub text-fits : length (textOf s) ≤ textBytes
+  text-fits = let t = text-short in let m = g .layout .sized .most in omega arith
 
 -- ---- the text of a good file
 

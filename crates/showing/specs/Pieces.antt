@@ -10,9 +10,11 @@ use Rattle.format.specs.Readable.{lineFeed}
 use Rattle.format.specs.Bytes.{traceIn}
 use Rattle.format.specs.Layout.{Placed}
 use Rattle.judging.specs.Judged.{IsGoodFile}
+use Rattle.limits.specs.Limits.{eventBytes}
 use Rattle.limits.specs.declared.Recording.{Recording}
 use Rattle.wording.specs.Lines.{noteWord, noteLine, kindWord, eventLine}
-use Rattle.showing.specs.Shown.{notesOf, textFrom, textBytes}
+use Rattle.composing.specs.Texts.{textBytes}
+use Rattle.showing.specs.Shown.{notesOf, textFrom}
 
 -- a byte of a preamble in its note lines: behind a line feed the next of them begins
 abbrev pub noteByte : ℕ → List ℕ
@@ -43,7 +45,7 @@ eventTextAt ev k = eventText (at (traceIn ev) k)
 
 -- no event's line is longer: six for each byte of the event
 abbrev pub lineBytes : ℕ
-lineBytes = 24
+lineBytes = 6 * eventBytes
 
 -- an event of a good trace
 pub record GoodAt (ev : List ℕ) (k : ℕ) : Type 0 where

@@ -13,13 +13,13 @@ use Rattle.writing.specs.Written.{fileWith}
 use Rattle.writing.specs.RoundTrip.{AllBytes}
 use Rattle.writing.specs.Writing.{handed}
 use Rattle.writing.specs.declared.Written.the-variants.{Bytes}
-use Rattle.composing.specs.Texts.{lines, said, joined, Makes}
+use Rattle.composing.specs.Texts.{textBytes, lines, said, joined, Makes}
 use Rattle.showing.specs.declared.Shown.the-variants.{Text}
-use Rattle.showing.specs.Shown.{notesOf, textFrom, textWith, textBytes, shown, answerShow}
+use Rattle.showing.specs.Shown.{notesOf, textFrom, textWith, shown, answerShow}
 
 -- ---- what is shown
 
--- the text makes the file s: it is short (compose takes 32,768 bytes), its lines make the notes and the events of s, and the writer gives s for these
+-- the text makes the file s: it is no longer than a text may be, its lines make the notes and the events of s, and the writer gives s for these
 pub record MakesAgain (s text : List ℕ) : Type 0 where
   pub short : length text ≤ textBytes
   pub makes : Makes (lines text) (notesOf (preamble s)) (eventsOf s)

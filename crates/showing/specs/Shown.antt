@@ -13,7 +13,7 @@ use Rattle.format.specs.Readable.{lineFeed}
 use Rattle.format.specs.Layout.{preamble}
 use Rattle.judging.specs.Judged.{eventsOf, refusalOf, rowsOfFile}
 use Rattle.wording.specs.Lines.{noteLine, eventLine}
-use Rattle.composing.specs.Texts.{lines}
+use Rattle.composing.specs.Texts.{textBytes, lines}
 use Rattle.showing.specs.declared.Shown.{Shown}
 use Rattle.showing.specs.declared.Shown.the-variants.{Refused, Text}
 
@@ -43,15 +43,11 @@ textOf s = textWith (preamble s) (eventsOf s)
 
 -- ---- the answer, with the lent bytes after it
 
--- the bytes to lend: six for each byte of the longest file, which is enough for any text
-abbrev pub textBytes : ℕ
-textBytes = 24576
-
 -- a text in the front of the lent bytes, and the rest as it was
 abbrev pub shown : List ℕ → List ℕ → Shown × List ℕ
 shown text out = (Text (length text), inFront text out)
 
--- the rows: those of the file; too few lent bytes are refusal 10
+-- the rows: those of the file; fewer lent bytes than a text may have are refusal 10
 abbrev pub showRows : List ℕ → List ℕ → List Row
 showRows s out = rowsOfFile s ++ row 10 nothing (length out < textBytes) ∷ []
 

@@ -2,6 +2,7 @@
 use appending::put_byte;
 use appending::put_decimal;
 use appending::put_word;
+use composing::TEXT_BYTES;
 use format::File;
 use format::NoteByte;
 use limits::Event;
@@ -15,9 +16,6 @@ ghost use Rattle.appending.specs.Decimal.{decimal};
 ghost use Rattle.appending.specs.Appended.{Appends, AppendsShort};
 ghost use Rattle.showing.specs.Shown.{textOf, answerShow};
 ghost use Rattle.showing.specs.Pieces.{noteByte, notesText, spacedKind, eventText, eventTextAt, eventsText, lineBytes, GoodAt, EventsLent, TextLent};
-
-// The bytes to lend: six for each byte of the longest file, which is enough for any text.
-pub const TEXT_BYTES: usize = 24576;
 
 // How many bytes the text has, or why there is none.
 pub enum Shown {
@@ -138,7 +136,7 @@ fn put_text(out: &mut [u8], file: &[u8], t: Recording) -> usize
     put_events(out, end, format::events(file, t))
 }
 
-// Puts the text of a file in the front of the lent bytes. Fewer of them than any text could need are refusal 10.
+// Puts the text of a file in the front of the lent bytes. Fewer of them than a text may have are refusal 10.
 pub fn show_text(file: &[u8], text: &mut [u8]) -> Shown
     ensures { λ r. ⌜ (r, now (text .exit)) ≡ answerShow (now (file .entry)) (now (text .entry)) ⌝ }
 {

@@ -1,5 +1,5 @@
 use Rattle.composing.proofs.AnswerLaws.{preamble-within, threads-within, kinds-within, objects-within}
-use Rattle.compose.proofs.ComposeLaws.{notes-few, compose-bad, compose-good}
+use Rattle.compose.proofs.ComposeLaws.{text-lent, notes-few, compose-bad, compose-good}
 use borrow.Author.Needs.{needs}
 use Rattle.compose.proofs.compose_text.Statement.{statement}
 use Rattle.compose.proofs.compose_text.Tie as tie
@@ -12,7 +12,7 @@ compose-text-spec =
     (λ c. search needs)
     (λ c. search needs)
     (λ c. search needs)
-    (λ c κs. search needs)
+    (λ c κs. search text-lent)
     (λ c. search needs)
     (λ c. search needs)
     (λ c. search needs)
