@@ -31,7 +31,9 @@ fn compare(program: &str, file: &[u8], name: &str) {
 fn main() {
     let program = std::env::args().nth(1).expect("use: compare PROGRAM");
     for family in [Family::all(), Family::deep(), Family::forks()].concat() {
-        for n in [128, 512] {
+        // with few cells there are so many pairs that plain Rust is slow
+        let long = if family.cells > 4 { 1000 } else { 512 };
+        for n in [128, long] {
             let name = format!("{n} events, {}", family.name());
             compare(&program, &family.recording(n, 1), &name);
         }

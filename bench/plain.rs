@@ -10,6 +10,14 @@ pub const RELEASE: u8 = 4;
 pub const FORK: u8 = 5;
 pub const JOIN: u8 = 6;
 
+const MAX_BYTES: usize = 16384;
+const MAX_EVENTS: usize = 1000;
+const MAX_THREAD: usize = 15;
+const MAX_OBJECT: usize = 1023;
+
+const THREADS: usize = MAX_THREAD + 1;
+const OBJECTS: usize = MAX_OBJECT + 1;
+
 #[derive(Clone, Copy)]
 struct Event {
     thread: u8,
@@ -19,13 +27,13 @@ struct Event {
 
 /// The events of a good file; event k is `events[k]`, and place 0 is not used.
 fn parse(file: &[u8]) -> Option<Vec<Event>> {
-    if file.len() < 8 || file.len() > 4096 || file[file.len() - 2..] != [0x50, 0x4C] {
+    if file.len() < 8 || file.len() > MAX_BYTES || file[file.len() - 2..] != [0x50, 0x4C] {
         return None;
     }
     let trailer = &file[file.len() - 8..];
     let distance = u32::from_le_bytes(trailer[..4].try_into().unwrap()) as usize;
     let n = u16::from_le_bytes(trailer[4..6].try_into().unwrap()) as usize;
-    if n > 512 || distance != 8 + 4 * n || distance > file.len() {
+    if n > MAX_EVENTS || distance != 8 + 4 * n || distance > file.len() {
         return None;
     }
     let first = file.len() - distance;
@@ -52,21 +60,25 @@ fn parse(file: &[u8]) -> Option<Vec<Event>> {
 
 fn well_formed(events: &[Event]) -> bool {
     // who holds each lock, and how deep
-    let mut holds: [Option<(u8, usize)>; 256] = [None; 256];
-    let mut begun = [false; 16];
-    let mut forked = [false; 16];
-    let mut joined = [false; 16];
+    let mut holds: [Option<(u8, usize)>; OBJECTS] = [None; OBJECTS];
+    let mut begun = [false; THREADS];
+    let mut forked = [false; THREADS];
+    let mut joined = [false; THREADS];
     for e in &events[1..] {
-        let most = if e.kind >= FORK { 15 } else { 255 };
-        if e.kind == 0 || e.kind > 6 || e.thread > 15 || e.object > most {
+        let thread = e.thread as usize;
+        let object = e.object as usize;
+        let most = if e.kind >= FORK {
+            MAX_THREAD
+        } else {
+            MAX_OBJECT
+        };
+        if e.kind == 0 || e.kind > JOIN || thread > MAX_THREAD || object > most {
             return false;
         }
-        let thread = e.thread as usize;
         if joined[thread] {
             return false;
         }
         begun[thread] = true;
-        let object = e.object as usize;
         match (e.kind, holds[object]) {
             (ACQUIRE, None) => holds[object] = Some((e.thread, 1)),
             (ACQUIRE, Some((t, depth))) if t == e.thread => holds[object] = Some((t, depth + 1)),
@@ -105,11 +117,11 @@ fn links(events: &[Event]) -> Links {
         joined: vec![0; places],
         counts: vec![false; places],
     };
-    let mut last_of_thread = [0; 16];
-    let mut fork_of_thread = [0; 16];
-    let mut last_write = [0; 256];
-    let mut acquired = [0; 256];
-    let mut depth = [0; 256];
+    let mut last_of_thread = [0; THREADS];
+    let mut fork_of_thread = [0; THREADS];
+    let mut last_write = [0; OBJECTS];
+    let mut acquired = [0; OBJECTS];
+    let mut depth = [0; OBJECTS];
     for k in 1..places {
         let e = events[k];
         let thread = e.thread as usize;
@@ -155,7 +167,7 @@ pub fn observed_writes(file: &[u8], entries: &mut Vec<u16>) -> bool {
     };
     entries.clear();
     entries.resize(events.len(), NOT_A_READ);
-    let mut last_write = [0; 256];
+    let mut last_write = [0; OBJECTS];
     for (k, e) in events.iter().enumerate() {
         let cell = e.object as usize;
         match e.kind {
@@ -343,28 +355,41 @@ fn push_line(out: &mut Vec<u8>, a: usize, b: usize, path: &[usize]) {
     out.push(b'\n');
 }
 
+/// How many conflicting pairs a good file has.
+#[allow(dead_code)] // only the benchmark asks it
+pub fn pairs(file: &[u8]) -> usize {
+    conflicting_pairs(&parse(file).expect("a good file")).len()
+}
+
+fn conflicting_pairs(events: &[Event]) -> Vec<(usize, usize)> {
+    let mut pairs = Vec::new();
+    for a in 1..events.len() {
+        for b in a + 1..events.len() {
+            if conflicting(events[a], events[b]) {
+                pairs.push((a, b));
+            }
+        }
+    }
+    pairs
+}
+
 /// The nightly report of a good file, and how many conflicting pairs it has.
 pub fn report(file: &[u8], out: &mut Vec<u8>) -> usize {
     out.clear();
     let events = parse(file).expect("a good file");
     let l = links(&events);
-    let threads = (0..16)
-        .filter(|&t| events[1..].iter().any(|e| e.thread == t))
+    let threads = (0..THREADS)
+        .filter(|&t| events[1..].iter().any(|e| e.thread as usize == t))
         .count();
     out.extend_from_slice(format!("events {} threads {threads}\n", events.len() - 1).as_bytes());
-    let (mut pairs, mut races) = (0, 0);
-    for a in 1..events.len() {
-        for b in a + 1..events.len() {
-            if !conflicting(events[a], events[b]) {
-                continue;
-            }
-            pairs += 1;
-            if let Some(path) = witness(&events, &l, a, b) {
-                push_line(out, a, b, &path);
-                races += 1;
-            }
+    let pairs = conflicting_pairs(&events);
+    let mut races = 0;
+    for &(a, b) in &pairs {
+        if let Some(path) = witness(&events, &l, a, b) {
+            push_line(out, a, b, &path);
+            races += 1;
         }
     }
     out.extend_from_slice(format!("races {races}\n").as_bytes());
-    pairs
+    pairs.len()
 }

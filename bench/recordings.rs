@@ -5,14 +5,15 @@
 use crate::plain::{ACQUIRE, FORK, JOIN, READ, RELEASE, WRITE};
 
 /// Thread, kind, object.
-type Event = (u8, u8, u8);
+type Event = (u8, u8, u16);
 
 /// The file of some events, without a preamble.
 fn file_of(events: &[Event]) -> Vec<u8> {
     let n = events.len();
     let mut file = Vec::new();
     for &(thread, kind, object) in events {
-        file.extend_from_slice(&[thread, kind, object, 0]);
+        file.extend_from_slice(&[thread, kind]);
+        file.extend_from_slice(&object.to_le_bytes());
     }
     file.extend_from_slice(&(8 + 4 * n as u32).to_le_bytes());
     file.extend_from_slice(&(n as u16).to_le_bytes());
@@ -137,7 +138,7 @@ impl Family {
             };
             let (kind, object) =
                 change.unwrap_or_else(|| self.step(&mut r, &mut holds, thread as usize));
-            events.push((thread as u8, kind, object as u8));
+            events.push((thread as u8, kind, object as u16));
         }
         file_of(&events)
     }
@@ -203,6 +204,12 @@ pub enum Slow {
 impl Slow {
     pub const ALL: [Slow; 3] = [Slow::Sections, Slow::Long, Slow::Chain];
 
+    /// Would plain Rust take minutes or hours over n events?
+    #[allow(dead_code)] // only the benchmark asks it
+    pub fn endless(self, n: usize) -> bool {
+        n > 512 && !matches!(self, Slow::Chain)
+    }
+
     pub fn name(self) -> &'static str {
         match self {
             Slow::Sections => "sections",
@@ -226,7 +233,7 @@ impl Slow {
 fn by_two(own: usize, shared: Vec<u8>) -> Vec<Event> {
     let mut events = Vec::new();
     for thread in 0..2 {
-        let cell = |i| 1 + ((2 * i + thread as usize) % 200) as u8;
+        let cell = |i| 1 + ((2 * i + thread as usize) % 200) as u16;
         events.extend((0..own).map(|i| (thread, WRITE, cell(i))));
         events.extend(shared.iter().map(|&kind| (thread, kind, 0)));
     }
@@ -248,14 +255,14 @@ fn chain(steps: usize) -> Vec<Event> {
     let mut events = Vec::new();
     for step in 0..steps {
         let thread = step as u8 % 8;
-        let (this, next) = (step as u8 % 50, (step + 1) as u8 % 50);
-        let (written, read) = (100 + step as u8 % 3, 100 + (step + 1) as u8 % 3);
+        let turn = |n| (step as u16 % n, (step as u16 + 1) % n);
+        let ((this, next), (written, read)) = (turn(50), turn(3));
         let kinds = [
             (ACQUIRE, this),
             (ACQUIRE, next),
-            (WRITE, written),
+            (WRITE, 100 + written),
             (RELEASE, this),
-            (READ, read),
+            (READ, 100 + read),
             (RELEASE, next),
         ];
         events.extend(kinds.map(|(kind, object)| (thread, kind, object)));

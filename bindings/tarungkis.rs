@@ -61,10 +61,10 @@ unsafe extern "C" {
     ) -> usize;
 }
 
-pub const MAX_BYTES: usize = 4096;
-pub const MAX_EVENTS: usize = 512;
+pub const MAX_BYTES: usize = 16384;
+pub const MAX_EVENTS: usize = 1000;
 pub const MAX_THREAD: usize = 15;
-pub const MAX_OBJECT: usize = 255;
+pub const MAX_OBJECT: usize = 1023;
 pub const AREA_BYTES: usize = 65536;
 pub const LINE_BYTES: usize = 25 + 6 * MAX_EVENTS;
 pub const MAX_RACES: usize = MAX_EVENTS * MAX_EVENTS;

@@ -1,9 +1,9 @@
 //! Askings of questions 2 to 6 about the recording asked about.
 
-use crate::book::{Book, LONGEST};
+use crate::book::Book;
 use crate::chance::Chance;
 use crate::questions::AREA;
-use crate::recording::Event;
+use crate::recording::{Event, OLD_LIMITS};
 use crate::rules::{brings_next, List};
 use crate::study::{Pair, Study};
 
@@ -38,18 +38,22 @@ pub fn ask_a_few(book: &mut Book, chance: &mut Chance, times: usize) {
 }
 
 /// Question 2 of all numbers at once with a list that is just long enough, and with one entry
-/// fewer; of a refused file with the longest list and with none, since its refusal precedes 10.
-/// Then the list as numbers, with two entries more than are needed.
+/// fewer. Then the list as numbers, with two entries more than are needed.
 pub fn ask_all(book: &mut Book) {
-    let n = book.study().map(|study| study.events().len());
-    let lists = match n {
-        Some(n) => [n + 1, n],
-        None => [LONGEST, 0],
+    let Some(study) = book.study() else {
+        return ask_all_of_refused(book);
     };
-    for entries in lists {
-        book.ask22(entries);
-    }
-    book.ask21(n.map_or(2, |n| n + 3));
+    let n = study.events().len();
+    book.ask22(n + 1);
+    book.ask22(n);
+    book.ask21(n + 3);
+}
+
+/// The same of a refused file, with a long list and with none, since its refusal precedes 10.
+pub fn ask_all_of_refused(book: &mut Book) {
+    book.ask22(OLD_LIMITS.long_list());
+    book.ask22(0);
+    book.ask21(2);
 }
 
 /// Question 2 of all numbers at once, asked of one recording in five, with a list that is mostly
@@ -58,7 +62,7 @@ pub fn ask_all_now_and_then(book: &mut Book, chance: &mut Chance) {
     let Some(study) = book.study() else { return };
     let n = study.events().len();
     if chance.below(5) == 0 {
-        let longer = chance.from_to(n + 1, LONGEST);
+        let longer = chance.from_to(n + 1, OLD_LIMITS.long_list());
         let lists = [n + 1, n + 1, n + 1, n + 2, longer, longer, n, 0];
         book.ask22(chance.one_of(&lists));
     }
@@ -168,7 +172,8 @@ pub fn ask_verdict(book: &mut Book, chance: &mut Chance) {
         (pair.a, pair.b)
     };
     let short = n.saturating_sub(1);
-    let entries = chance.one_of(&[n, n, n, n + 1, n + 3, short, short, 0, 512, 600]);
+    let (most, long) = (OLD_LIMITS.events, OLD_LIMITS.long_list());
+    let entries = chance.one_of(&[n, n, n, n + 1, n + 3, short, short, 0, most, long]);
     let area = chance.one_of(&AREAS);
     book.ask3(a, b, entries, area);
 }

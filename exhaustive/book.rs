@@ -2,7 +2,7 @@
 
 use crate::holds::{deepest, has_reentry};
 use crate::questions::{Asked, Verdict, AREA};
-use crate::recording::{made_readable, Event, Kind, Recording, Refusal};
+use crate::recording::{made_readable, Event, Kind, Recording, Refusal, LIMITS};
 use crate::rules::{fits_after, Seen};
 use crate::study::{depends_on_depth, depends_on_forks, Pair, Study, SHORT_BY_TWO};
 use crate::threads::has_fork_or_join;
@@ -10,7 +10,16 @@ use crate::writer::{self, Handed};
 use std::collections::BTreeMap;
 
 /// The longest list that is lent to a question, or proposed in one.
-pub const LONGEST: usize = 600;
+pub const LONGEST: usize = 1100;
+
+/// The longest buffer that is lent to the writer, and the longest preamble handed to it.
+pub const LONGEST_BUFFER: usize = 20_000;
+
+/// The longest line.
+const LONGEST_LINE: usize = 33_000;
+
+/// A line shows no race more once its races have more bytes than this.
+const RACES_SHOWN: usize = 16_000;
 
 pub struct Book {
     pub stdin: String,
@@ -38,7 +47,8 @@ impl Book {
     }
 
     fn line(&mut self, asked: &str, answer: &str) {
-        assert!(asked.len().max(answer.len()) <= 16_000, "a line too long");
+        let longer = asked.len().max(answer.len());
+        assert!(longer <= LONGEST_LINE, "a line too long: {longer}");
         self.stdin.push_str(asked);
         self.stdin.push('\n');
         self.stdout.push_str(answer);
@@ -170,6 +180,7 @@ impl Book {
     }
 
     pub fn ask3(&mut self, a: usize, b: usize, entries: usize, area: usize) {
+        assert!(entries <= LONGEST, "a list too long");
         let mut lent = vec![9999u16; entries];
         let mut work = vec![170u8; area];
         let said = self.asked.verdict((a, b), &mut lent, &mut work);
@@ -224,8 +235,9 @@ impl Book {
 
     /// Asks the writer with a lent buffer of so many bytes and gives the file, if there is one.
     pub fn ask_writer(&mut self, handed: &Handed, length: usize) -> Option<Vec<u8>> {
-        assert!(length <= 5000, "a buffer too long");
-        assert!(handed.preamble.len() <= 8000, "a preamble too long");
+        assert!(length <= LONGEST_BUFFER, "a buffer too long");
+        let preamble = handed.preamble.len();
+        assert!(preamble <= LONGEST_BUFFER, "a preamble too long");
         assert!(handed.events.len() <= 2000, "too many events");
         let mut buffer = vec![170u8; length];
         let said = writer::write(handed, &mut buffer);
@@ -419,14 +431,19 @@ fn good_line(asked: &Asked, study: &Study) -> String {
     fields.join(" | ")
 }
 
-/// The races by question 4 from (0, 0) on, each with its witness and what question 5 says to it.
+/// The races by question 4 from (0, 0) on, each with its witness and what question 5 says to it;
+/// beyond a length they are only counted.
 fn races_words(asked: &Asked) -> (String, usize) {
-    let mut races = Vec::new();
+    let (mut races, mut count) = (String::new(), 0);
     let mut area = vec![170u8; AREA];
-    let mut entries = vec![9999u16; 512];
+    let mut entries = vec![9999u16; LIMITS.events];
     let mut last = (0, 0);
     while let Ok(Some((a, b))) = asked.next_race(last, &mut area) {
         last = (a, b);
+        count += 1;
+        if races.len() > RACES_SHOWN {
+            continue;
+        }
         let Ok(Verdict::Reported(length)) = asked.verdict(last, &mut entries, &mut area) else {
             panic!("question 4 gives a pair that question 3 does not report");
         };
@@ -434,11 +451,12 @@ fn races_words(asked: &Asked) -> (String, usize) {
         let numbers: String = list.iter().map(|e| format!(" {e}")).collect();
         let said = fault_or_refused(asked.check(a, b, &list));
         assert_eq!(said, "yes");
-        races.push(format!("{a} {b}:{numbers} {said}"));
+        let between = if count == 1 { "" } else { "; " };
+        races += &format!("{between}{a} {b}:{numbers} {said}");
     }
-    match races.len() {
+    match count {
         0 => ("none".to_string(), 0),
-        count => (races.join("; "), count),
+        _ => (races, count),
     }
 }
 

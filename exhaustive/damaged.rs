@@ -1,12 +1,13 @@
 //! Group 5: damaged files, each refusal 1 to 9 and 13 at each of its edges, and two damages at
 //! once; 15, 16 and 17 among these.
 
-use crate::book::{Book, LONGEST};
+use crate::book::Book;
 use crate::chance::Chance;
 use crate::preambles;
 use crate::questions::AREA;
 use crate::random::random_events;
-use crate::recording::{acq, event_bytes, file, r, rel, size, told, trailer, w, Event, TRAILER};
+use crate::recording::{acq, event_bytes, file, r, rel, size, told, trailer, w, Event};
+use crate::recording::{Limits, LIMITS, OLD_LIMITS, TRAILER};
 use crate::reentry::random_reentry;
 use crate::short::every_without_reentry;
 use crate::worked::{Q, R, Z};
@@ -39,6 +40,10 @@ impl Raw {
     fn set_distance(&mut self, distance: u32) {
         self.trailer[..4].copy_from_slice(&distance.to_le_bytes());
     }
+
+    fn set_object(&mut self, place: usize, object: u16) {
+        self.events[place][2..].copy_from_slice(&object.to_le_bytes());
+    }
 }
 
 pub fn write(book: &mut Book) {
@@ -55,10 +60,13 @@ pub fn write(book: &mut Book) {
     deep_locks(book);
     book.title("two damages at once, one of 15, 16, 17 or an unknown kind: 7, 15, 16, 17, 8 or 9");
     two_of(book, &newer_pairs(&damages()));
+    book.title("two damages at once, one of them beyond a limit of request Six: 1, 3 or 7");
+    let older = [damages(), newer_damages()].concat();
+    two_of(book, &pairs_with(&damages_beyond(), &older));
 }
 
 fn sizes(book: &mut Book) {
-    book.title("refusal 1: sizes 0 to 9 and 4,095 to 4,097");
+    book.title("refusal 1: sizes 0 to 9; before request Six: 4,095 to 4,097");
     let empty = file(&[], &[]);
     for size in 0..=9 {
         book.recording(&vec![0; size]);
@@ -66,13 +74,9 @@ fn sizes(book: &mut Book) {
         let longer = [&[0x2E][..], &empty].concat();
         book.recording(&longer[9 - size..]);
     }
-    for size in [4095, 4096, 4097, 4098, 5000] {
-        book.recording(&vec![0; size]);
-        for n in [0, 1, 2, 511, 512, 513] {
-            let events = vec![r(0, 0); n];
-            book.recording(&file(&vec![0x20; size - 8 - 4 * n], &events));
-        }
-    }
+    longest_files(book, &OLD_LIMITS, r(0, 0));
+    book.title("refusal 1: sizes 16,383 to 16,385");
+    longest_files(book, &LIMITS, w(0, 0));
     book.title("refusal 1: beginnings and ends of Q");
     let whole = file(&[], &told(Q));
     for size in 0..8 {
@@ -82,12 +86,23 @@ fn sizes(book: &mut Book) {
     ask_of_refused(book);
 }
 
-/// The questions asked of a refused file all give its refusal; one file that request Three made good
-/// is asked them too.
+/// Files as long as may be, and longer ones, with and without this event again and again.
+fn longest_files(book: &mut Book, limits: &Limits, event: Event) {
+    let (most, n) = (limits.bytes, limits.events);
+    for bytes in [most - 1, most, most + 1, most + 2, most + 904] {
+        book.recording(&vec![0; bytes]);
+        for n in [0, 1, 2, n - 1, n, n + 1] {
+            book.recording(&file(&vec![0x20; bytes - size(0, n)], &vec![event; n]));
+        }
+    }
+}
+
+/// The questions asked of a refused file all give its refusal; files that a later request made good
+/// are asked them too.
 pub fn ask_of_refused(book: &mut Book) {
     book.ask2(1);
     book.ask22(0);
-    book.ask22(LONGEST);
+    book.ask22(OLD_LIMITS.long_list());
     book.ask3(1, 8, 8, AREA);
     book.ask3(0, 0, 0, 0);
     book.ask4(0, 0, AREA);
@@ -128,17 +143,27 @@ fn counts(book: &mut Book) {
     book.title(
         "refusals 3, 4 and 13: the count of events, with and without the distance that fits it",
     );
-    for n in [0, 1, 2, 8, 256, 512] {
-        let there = vec![w(1, 9); n];
-        let n = n as u16;
+    claimed_counts(book, &OLD_LIMITS, &[0, 1, 2, 8, 256, OLD_LIMITS.events]);
+    ask_of_refused(book);
+    book.title("refusals 3 and 4: the count of events around 1,000");
+    claimed_counts(book, &LIMITS, &[0, 8, LIMITS.events]);
+    ask_of_refused(book);
+}
+
+/// With so many events, other counts and those around a limit.
+fn claimed_counts(book: &mut Book, limits: &Limits, numbers: &[usize]) {
+    let most = limits.events as u16;
+    for n in numbers {
+        let there = vec![w(1, 9); *n];
+        let n = *n as u16;
         let claimed = [
             n.wrapping_sub(1),
             n + 1,
             n.swap_bytes(),
             n + 256,
-            512,
-            513,
-            514,
+            most,
+            most + 1,
+            most + 2,
             1024,
             32768,
             65535,
@@ -154,7 +179,6 @@ fn counts(book: &mut Book) {
             }
         }
     }
-    ask_of_refused(book);
 }
 
 fn distances(book: &mut Book) {
@@ -194,6 +218,20 @@ fn distances(book: &mut Book) {
     ask_of_refused(book);
 }
 
+/// Objects around the limit before request Six, around the limit and far beyond it.
+const OBJECTS: [u16; 10] = [
+    OLD_LIMITS.object,
+    OLD_LIMITS.object + 1,
+    OLD_LIMITS.object + 2,
+    511,
+    LIMITS.object,
+    LIMITS.object + 1,
+    LIMITS.object + 2,
+    2047,
+    0xFF00,
+    65535,
+];
+
 fn fields(book: &mut Book) {
     book.title(
         "refusals 5, 6, 7: kind, thread and object of the first, a middle and the last event",
@@ -211,7 +249,6 @@ fn fields(book: &mut Book) {
         (0, 17),
         (0, 255),
     ];
-    let objects: [u16; 6] = [255, 256, 257, 511, 0xFF00, 65535];
     let plain = told("0w1 1r1 2w0 3r3 0w1");
     for (events, places) in [
         (vec![w(0, 0)], vec![0]),
@@ -224,9 +261,9 @@ fn fields(book: &mut Book) {
                 raw.events[place][field] = value;
                 book.recording(&raw.bytes());
             }
-            for object in objects {
+            for object in OBJECTS {
                 let mut raw = Raw::new(b"n", &events);
-                raw.events[place][2..].copy_from_slice(&object.to_le_bytes());
+                raw.set_object(place, object);
                 book.recording(&raw.bytes());
             }
             ask_of_refused(book);
@@ -321,12 +358,13 @@ fn locks(book: &mut Book) {
 pub type Damage = (u8, fn(&mut Raw, usize));
 
 /// One damage of each refusal, in the order in which they are judged; those of an event are done
-/// to the event at the given place.
+/// to the event at the given place. Those of 1 and 7 are none since request Six, and that of 3 is
+/// one of 4, since the distance does not fit.
 pub fn damages() -> Vec<Damage> {
     vec![
-        (1, |raw, _| raw.preamble = vec![0x2E; 4096]),
+        (1, |raw, _| raw.preamble = vec![0x2E; OLD_LIMITS.bytes]),
         (2, |raw, _| raw.trailer[7] = 0x4D),
-        (3, |raw, _| raw.set_count(513)),
+        (3, |raw, _| raw.set_count(OLD_LIMITS.events as u16 + 1)),
         (4, |raw, _| raw.trailer[0] ^= 4),
         (13, |raw, _| raw.preamble.push(0x09)),
         // a fork since request Five: of oneself or of a thread that has an event
@@ -351,6 +389,15 @@ pub fn newer_damages() -> Vec<Damage> {
     ]
 }
 
+/// Those beyond a limit since request Six.
+pub fn damages_beyond() -> Vec<Damage> {
+    vec![
+        (1, |raw, _| raw.preamble = vec![0x2E; LIMITS.bytes]),
+        (3, |raw, _| raw.set_count(LIMITS.events as u16 + 1)),
+        (7, |raw, i| raw.set_object(i, LIMITS.object + 1)),
+    ]
+}
+
 fn two_at_once(book: &mut Book) {
     book.title("two damages at once: 1, 2, 3, 4, 13, then event by event 5, 6, 7, then 8 or 9");
     two_of(book, &pairs_of(&damages(), &damages()));
@@ -359,7 +406,7 @@ fn two_at_once(book: &mut Book) {
 /// Takes files with two damages each.
 fn two_of(book: &mut Book, damaged: &[Raw]) {
     // without the damages 7 entries would be just enough; refusal 10 is judged after all of them
-    let lists = [0, 6, 7, LONGEST];
+    let lists = [0, 6, 7, OLD_LIMITS.long_list()];
     for (raw, entries) in damaged.iter().zip(lists.iter().cycle()) {
         book.recording(&raw.bytes());
         book.ask22(*entries);
@@ -371,11 +418,15 @@ pub const TO_DAMAGE: &str = "0+4 0w0 1r0 1w1 0r1 0-4";
 
 /// Every two of the damages of which one is of request Five or an unknown kind.
 pub fn newer_pairs(older: &[Damage]) -> Vec<Raw> {
-    let newer = newer_damages();
+    pairs_with(&newer_damages(), older)
+}
+
+/// Every two of the damages of which one is a newer one.
+pub fn pairs_with(newer: &[Damage], older: &[Damage]) -> Vec<Raw> {
     [
-        pairs_of(older, &newer),
-        pairs_of(&newer, older),
-        pairs_of(&newer, &newer),
+        pairs_of(older, newer),
+        pairs_of(newer, older),
+        pairs_of(newer, newer),
     ]
     .concat()
 }

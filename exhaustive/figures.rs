@@ -2,9 +2,9 @@
 //! the enumeration of all correct reorderings must give the same.
 
 use crate::askings::ask_all;
-use crate::book::{Book, LONGEST};
+use crate::book::Book;
 use crate::questions::AREA;
-use crate::recording::{file, told};
+use crate::recording::{file, told, OLD_LIMITS};
 use crate::study::predictable_pairs;
 use crate::worked::{Q, R, S, T};
 
@@ -92,7 +92,7 @@ fn document_000(book: &mut Book) {
     book.ask5(2, 14, &[1, 5, 6, 7, 8, 9, 10, 11, 12, 13]);
     let title = "document 000, figure 2: the paper says (10, 19) is a predictable race; reported";
     put(book, title, FIGURE_2, &[race(10, 19)]);
-    book.ask22(LONGEST);
+    book.ask22(OLD_LIMITS.long_list());
     let of_paper = [1, 2, 3, 12, 13, 14, 15, 4, 5, 6, 7, 8, 9, 16, 17, 18];
     book.ask5(10, 19, &of_paper);
     book.ask5(10, 19, &of_paper[..15]);
@@ -110,7 +110,7 @@ fn more_of_000(book: &mut Book) {
     book.ask5(6, 16, &[1, 8, 9, 10, 11, 12, 13, 14, 15, 2, 3, 4, 5]);
     let title = "document 000, figure 8: the paper says (5, 13) is not a predictable race; agreed";
     put(book, title, FIGURE_8, &[no_race(5, 13)]);
-    book.ask22(LONGEST);
+    book.ask22(OLD_LIMITS.long_list());
     let title =
         "document 000, figure 9: the paper says the writes of y, (5, 16), are a predictable \
                  race; these rules do not report it (thread 1's section would have to come before \
@@ -167,7 +167,7 @@ fn more_of_001(book: &mut Book) {
     let title = "document 001, figure 5, sync(x) and sync(y) written out: the paper says no race, \
                  (4, 14), here (4, 20); agreed";
     put(book, title, FIGURE_5, &[no_race(4, 20)]);
-    book.ask22(LONGEST);
+    book.ask22(OLD_LIMITS.long_list());
 }
 
 /// Figures of document 002: t_1 to t_4 are threads 0 to 3; a, b = cells 0, 1 and x, y, z = locks

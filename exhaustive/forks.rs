@@ -1,11 +1,11 @@
 //! Group 10, request Five: worked examples of forks and joins, lists with each fault beside 27, and
-//! recordings of 512 events.
+//! recordings of 512 and 1,000 events.
 //! Cells x = 0, y = 1, z = 2; lock l = 0.
 
 use crate::askings::ask_all;
 use crate::book::Book;
 use crate::questions::AREA;
-use crate::recording::{file, fork, join, told, w, Event};
+use crate::recording::{file, fork, join, told, w, Event, Limits, LIMITS, OLD_LIMITS};
 use crate::worked::{put, Race};
 
 /// A proposed list for a pair, with its answer.
@@ -50,7 +50,8 @@ pub fn write(book: &mut Book) {
     sections(book);
     odd_ones(book);
     beside_27(book);
-    full(book);
+    full(book, &OLD_LIMITS);
+    full(book, &LIMITS);
 }
 
 /// Writes a worked example down; asserts its races and the answers to the proposed lists.
@@ -238,44 +239,54 @@ fn beside_27(book: &mut Book) {
     put_with(book, title, LOCKS_FIRST, &races, &lists);
 }
 
-/// Recordings of 512 events with many forks and joins.
-fn full(book: &mut Book) {
-    let last = told("0w255 15w255");
+/// Recordings of as many events as these limits allow, with many forks and joins.
+fn full_recordings(limits: &Limits) -> [(String, Vec<Event>); 3] {
+    let n = limits.events;
+    let last = vec![w(0, limits.object), w(15, limits.object)];
     // the first child to work is forked last and the first to be joined works last, so that the
     // moved thread's events can be merged with the others in one way only
+    let work = n / 16 - 1;
     let crew: Vec<Event> = [
         (1..16).map(|t| fork(0, t)).collect(),
         (1..16)
             .rev()
-            .flat_map(|t| vec![w(t, t.into()); 31])
+            .flat_map(|t| vec![w(t, t.into()); work])
             .collect(),
         (1..15).map(|t| join(0, t)).collect(),
-        vec![w(0, 100); 16],
+        vec![w(0, 100); n - 31 - 15 * work],
         last.clone(),
     ]
     .concat();
     let chain: Vec<Event> = [
         (0..15).map(|t| fork(t, u16::from(t) + 1)).collect(),
-        vec![w(15, 3); 495],
+        vec![w(15, 3); n - 17],
         last.clone(),
     ]
     .concat();
-    let joins = [vec![w(7, 9)], vec![join(0, 7); 509], last].concat();
-    for (title, events) in [
-        ("fifteen threads forked, fourteen joined", crew),
-        ("each thread forks the next one", chain),
-        ("one thread joined 509 times", joins),
-    ] {
-        assert_eq!(events.len(), 512, "{title}");
-        book.title(&format!("512 events: {title}"));
+    let times = n - 3;
+    let joins = [vec![w(7, 9)], vec![join(0, 7); times], last].concat();
+    [
+        ("fifteen threads forked, fourteen joined".to_string(), crew),
+        ("each thread forks the next one".to_string(), chain),
+        (format!("one thread joined {times} times"), joins),
+    ]
+}
+
+fn full(book: &mut Book, limits: &Limits) {
+    let n = limits.events;
+    for (title, events) in full_recordings(limits) {
+        assert_eq!(events.len(), n, "{title}");
+        book.title(&format!("{n} events: {title}"));
         book.recording(&file(&[], &events));
-        assert!(book.study().is_some_and(|s| s.pair(511, 512).is_some()));
-        ask_all(book);
-        book.ask3(511, 512, 512, AREA);
-        let before: Vec<usize> = (1..=510).collect();
-        book.ask5(511, 512, &before);
-        book.ask5(511, 512, &before[1..]);
-        book.ask5(511, 512, &[]);
+        assert!(book.study().is_some_and(|s| s.pair(n - 1, n).is_some()));
+        if n == OLD_LIMITS.events {
+            ask_all(book);
+        }
+        book.ask3(n - 1, n, n, AREA);
+        let before: Vec<usize> = (1..n - 1).collect();
+        book.ask5(n - 1, n, &before);
+        book.ask5(n - 1, n, &before[1..]);
+        book.ask5(n - 1, n, &[]);
         book.ask4(0, 0, AREA);
     }
 }

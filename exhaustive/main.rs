@@ -1,8 +1,9 @@
 //! An independent exhaustive program: it answers the six questions of paper 01 and the writer's of
-//! request One by the published definitions alone, with the re-entrant locks of request Three and
-//! the forks and joins of request Five, by listing and comparing, and writes down what it found as
-//! vectors. Three things are choices of this project: what lists of different lengths get, the list
-//! lent for all of question 2's answers at once, and the form of a text.
+//! request One by the published definitions alone, with the re-entrant locks of request Three, the
+//! forks and joins of request Five and the limits of request Six, by listing and comparing, and
+//! writes down what it found as vectors. Three things are choices of this project: what lists of
+//! different lengths get, the list lent for all of question 2's answers at once, and the form of a
+//! text.
 
 mod askings;
 mod book;
@@ -114,9 +115,9 @@ fn confirm() {
     stability::confirm_short();
     stability::confirm_forks();
     let of_book = worked::ALL.iter().chain(&forks::ALL);
-    let of_book = of_book.map(|text| recording::told(text));
-    let recordings: Vec<_> = book.random.iter().cloned().chain(of_book).collect();
-    stability::confirm_random(&recordings);
+    let of_book: Vec<_> = of_book.map(|text| recording::told(text)).collect();
+    stability::confirm_random(&[&book.random[..], &of_book].concat());
+    stability::confirm_longest(&of_book);
 }
 
 /// Further random recordings for whoever wants more than what is stored, a third of them with

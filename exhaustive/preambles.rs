@@ -2,7 +2,7 @@
 
 use crate::book::Book;
 use crate::damaged::ask_of_refused;
-use crate::recording::{file, r, readable, told, w, LIMITS};
+use crate::recording::{file, r, readable, told, w, Limits, LIMITS, OLD_LIMITS};
 use crate::worked::Q;
 
 /// Bytes on both sides of each edge of what a preamble may hold.
@@ -13,7 +13,12 @@ pub const EDGES: [u8; 11] = [
 pub fn write(book: &mut Book) {
     each_byte(book);
     at_each_place(book);
-    longest(book);
+    book.title(
+        "refusals 13, 3 and 1 before request Six: preambles up to 4,096 bytes of file, and 4,097",
+    );
+    longest(book, &OLD_LIMITS);
+    book.title("refusals 13, 3 and 1: preambles up to 16,384 bytes of file, and one byte longer");
+    longest(book, &LIMITS);
     beside_the_preamble(book);
 }
 
@@ -71,11 +76,10 @@ fn at_each_place(book: &mut Book) {
     }
 }
 
-fn longest(book: &mut Book) {
-    book.title("refusals 13, 3 and 1: preambles up to 4,096 bytes of file, and one byte longer");
-    for n in [0, 1, 512, 513] {
+fn longest(book: &mut Book, limits: &Limits) {
+    for n in [0, 1, limits.events, limits.events + 1] {
         let events = vec![r(1, 3); n];
-        let most = LIMITS.preamble(n);
+        let most = limits.preamble(n);
         for length in [most, most + 1] {
             let spoiled = spoiled_places(length).map(Some);
             for spoiled in [None].into_iter().chain(spoiled) {

@@ -1,6 +1,6 @@
 //! A recording as bytes: how it is laid out and how it is judged
 //! (paper 01, "A recording on the desk" and refusals 1 to 9; request One, refusal 13; request
-//! Three, refusals 8 and 9; request Five, refusals 15, 16 and 17).
+//! Three, refusals 8 and 9; request Five, refusals 15, 16 and 17; request Six, the limits).
 
 use crate::holds::{held_by_another, hold};
 use crate::threads::{has_event, is_forked, is_joined};
@@ -18,9 +18,21 @@ impl Limits {
     pub fn preamble(&self, events: usize) -> usize {
         self.bytes - size(0, events)
     }
+
+    /// How many entries a lent list has that is long enough for every recording.
+    pub fn long_list(&self) -> usize {
+        self.events + 88
+    }
 }
 
 pub const LIMITS: Limits = Limits {
+    events: 1000,
+    bytes: 16_384,
+    object: 1023,
+};
+
+/// The limits before request Six. What lies beyond them is good now, and is asked still.
+pub const OLD_LIMITS: Limits = Limits {
     events: 512,
     bytes: 4096,
     object: 255,
@@ -59,6 +71,16 @@ pub struct Event {
 pub struct Recording {
     pub preamble: Vec<u8>,
     pub events: Vec<Event>,
+}
+
+impl Recording {
+    /// Whether it is beyond the limits before request Six.
+    pub fn good_since_six(&self) -> bool {
+        let n = self.events.len();
+        n > OLD_LIMITS.events
+            || size(self.preamble.len(), n) > OLD_LIMITS.bytes
+            || self.events.iter().any(|e| e.object > OLD_LIMITS.object)
+    }
 }
 
 /// A refusal's number and, where one belongs to it, the event's number.

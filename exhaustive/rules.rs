@@ -168,25 +168,20 @@ pub fn brings_next(events: &[Event], list: &[usize], a: usize, b: usize) -> bool
     enabled(events, list, a) && enabled(events, list, b)
 }
 
-/// The causal cone of (a, b): place e tells whether event e is in it.
-/// The rules are used again and again until nothing changes.
+/// The causal cone of (a, b): place e tells whether event e is in it. What an event brings in
+/// depends on that event alone, so the rules are used once of each that is in it.
 pub fn cone(events: &[Event], a: usize, b: usize) -> Vec<bool> {
     let mut inside = vec![false; events.len() + 1];
     for e in [a, b] {
         take_earlier(events, &mut inside, e);
         take_fork(events, &mut inside, e);
     }
-    loop {
-        let before = inside.clone();
-        for e in 1..=events.len() {
-            if inside[e] {
-                use_rules(events, &mut inside, e, a, b);
-            }
-        }
-        if inside == before {
-            return inside;
-        }
+    let mut used = vec![false; events.len() + 1];
+    while let Some(e) = (1..=events.len()).find(|e| inside[*e] && !used[*e]) {
+        used[e] = true;
+        use_rules(events, &mut inside, e, a, b);
     }
+    inside
 }
 
 /// Rules (i) and (ii): every event before this one in its thread.

@@ -2,10 +2,10 @@
 //! program").
 
 use crate::askings::{ask_all, ask_next, ask_verdict};
-use crate::book::{Book, LONGEST};
+use crate::book::Book;
 use crate::chance::Chance;
 use crate::questions::{Asked, AREA};
-use crate::recording::{acq, file, judge, r, rel, told, w, Event};
+use crate::recording::{acq, file, judge, r, rel, told, w, Event, OLD_LIMITS};
 use crate::text::{read_text, text_of};
 use crate::worked::Q;
 use crate::writer::{write as write_file, Handed};
@@ -26,7 +26,7 @@ pub fn write(book: &mut Book) {
         book.title(&format!("samples/{name}.rec"));
         book.recording(&bytes);
         ask_all(book);
-        book.ask22(LONGEST);
+        book.ask22(OLD_LIMITS.long_list());
         for _ in 0..10 {
             ask_verdict(book, &mut chance);
             ask_next(book, &mut chance);

@@ -1,7 +1,8 @@
 //! Confirmations about lengthenings (paper 01, demand 3). By at most two threads: each conflicting
 //! pair has the same verdict and the same list shown in a lengthening, and a pair that is not
 //! reported is not predictable there. By any number: the list shown passes question 5.
-//! Request Five: a lengthening may fork, join and begin threads.
+//! Request Five: a lengthening may fork, join and begin threads. Request Six: it may reach to 1,000
+//! events.
 
 use crate::chance::Chance;
 use crate::enumerate::every_correct;
@@ -12,10 +13,13 @@ use crate::recording::{acq, count_threads, fork, join, may_come_next, r, rel, w,
 use crate::recording::{LIMITS, MAX_THREAD};
 use crate::rules::{brings_next, is_access, is_of_lock, List};
 use crate::short::{every, every_with_reentry};
-use crate::study::{conflicting_pairs, shown_by_merges, SHORT};
+use crate::study::{conflicting_pairs, shown_by_merges, SHORT, SHORT_BY_TWO};
 use crate::threads::{has_event, has_fork_or_join, is_forked, is_joined};
 
 type Known = (usize, usize, Option<List>);
+
+/// By so many events a recording is lengthened at most where every correct reordering is visited.
+const MOST_ADDED: usize = 3;
 
 /// A recording with what is known of its conflicting pairs.
 struct Base {
@@ -82,7 +86,7 @@ impl Tally {
                 self.lists_still_pass += 1;
             }
         }
-        if base.by_two {
+        if base.by_two && longer.len() <= SHORT_BY_TWO + MOST_ADDED {
             self.not_predictable(base, longer);
         }
     }
@@ -261,16 +265,49 @@ fn some_of(events: &[Event], least: usize, times: usize, chance: &mut Chance, ta
     }
     let added = [additions_with_forks(events, 2), additions(events, 2)];
     for turn in 0..times {
-        let mut longer = events.to_vec();
-        let steps = chance.from_to(least, 3);
-        while longer.len() < events.len() + steps {
-            let event = chance.one_of(&added[turn % 2]);
-            if may_come_next(&longer, event) {
-                longer.push(event);
-            }
-        }
+        let steps = chance.from_to(least, MOST_ADDED);
+        let longer = lengthened(events, &added[turn % 2], steps, chance);
         tally.look(&base, &longer);
     }
+}
+
+/// The recording lengthened by so many of these events, at random.
+fn lengthened(events: &[Event], added: &[Event], steps: usize, chance: &mut Chance) -> Vec<Event> {
+    let mut longer = events.to_vec();
+    while longer.len() < events.len() + steps {
+        let event = chance.one_of(added);
+        if may_come_next(&longer, event) {
+            longer.push(event);
+        }
+    }
+    longer
+}
+
+/// Accesses and locks by every thread, of the highest object and of any other.
+fn anywhere(chance: &mut Chance) -> Vec<Event> {
+    let mut all = Vec::new();
+    for t in 0..=MAX_THREAD {
+        for o in [LIMITS.object, chance.below(LIMITS.object.into()) as u16] {
+            all.extend([r(t, o), w(t, o), acq(t, o), rel(t, o)]);
+        }
+    }
+    all
+}
+
+/// The confirmations for the worked examples lengthened to as many events as there can be, by any
+/// threads with any cells and locks. Not every correct reordering can be visited there.
+pub fn confirm_longest(recordings: &[Vec<Event>]) {
+    let mut chance = Chance::new(14);
+    let mut tally = Tally::default();
+    for events in recordings {
+        let base = Base::new(events);
+        for added in [additions_with_forks(events, 2), additions(events, 2)] {
+            let added = [added, anywhere(&mut chance)].concat();
+            let steps = LIMITS.events - events.len();
+            tally.look(&base, &lengthened(events, &added, steps, &mut chance));
+        }
+    }
+    tally.print("the worked examples, lengthened to 1,000 events at random");
 }
 
 /// The confirmations for every recording of at most 5 events by 2 threads with 1 lock, re-entry

@@ -1,18 +1,19 @@
 //! Group 10, request Five: refusals 7, 15, 16 and 17 at each of their edges and beside their
-//! neighbours, in files and handed to the writer.
+//! neighbours, in files and handed to the writer. Those of refusal 7 are at the limits of request
+//! Six too.
 
 use crate::book::Book;
 use crate::chance::Chance;
 use crate::damaged::{ask_of_refused, spoil, Raw};
 use crate::families::random_family;
 use crate::forks::BESIDE_THE_CHILD;
-use crate::recording::{file, told, Event};
+use crate::recording::{file, told, Event, LIMITS};
 use crate::writer::Handed;
 
 /// Events and what is said of them: 0 for good, or a refusal's number and its event.
 type Case = (&'static str, u8, usize);
 
-/// Refusals 5, 6 and 7; a fork's and a join's object is a thread, cells and locks go to 255.
+/// Refusals 5, 6 and 7; a fork's and a join's object is a thread, cells and locks go further.
 const FIELDS: [Case; 30] = [
     ("0f15", 0, 0),
     ("0j15", 0, 0),
@@ -37,14 +38,62 @@ const FIELDS: [Case; 30] = [
     ("255j255", 6, 1),
     ("0+15 0+16 0+255 0-16", 0, 0),
     ("0w15 0w16 0r255", 0, 0),
-    ("0+256", 7, 1),
-    ("0w256", 7, 1),
+    ("0+256", 0, 0),
+    ("0w256", 0, 0),
     ("0f1 0w16 1+255", 0, 0),
     ("0f16 0f16", 7, 1),
     ("0j16 0j0", 7, 1),
     ("0f1 0f17", 7, 2),
     ("0j1 1f16", 7, 2),
 ];
+
+/// Refusal 7 at the highest cell and lock, and one above. What one byte would hold of an object is
+/// not enough.
+const OBJECTS: [Case; 36] = [
+    ("0rMOST", 0, 0),
+    ("0wMOST", 0, 0),
+    ("0+MOST", 0, 0),
+    ("0+MOST 0-MOST", 0, 0),
+    ("0rOVER", 7, 1),
+    ("0wOVER", 7, 1),
+    ("0+OVER", 7, 1),
+    ("0-OVER", 7, 1),
+    ("0+MOST 0-OVER", 7, 2),
+    ("0r65535", 7, 1),
+    ("0w65535", 7, 1),
+    ("0+65535", 7, 1),
+    ("0-65535", 7, 1),
+    ("0fMOST", 7, 1),
+    ("0jMOST", 7, 1),
+    ("0fOVER", 7, 1),
+    ("0jOVER", 7, 1),
+    ("0r256 0w256 0+256 0-256", 0, 0),
+    ("0w0 1r256 1r0 1w256 0r256", 0, 0),
+    ("0wMOST 1rMOST", 0, 0),
+    ("0w255 1wMOST", 0, 0),
+    ("0+0 1+256 0-0 1-256", 0, 0),
+    ("0+255 1+MOST 1-MOST", 0, 0),
+    ("0-MOST", 9, 1),
+    ("0+MOST 1-MOST", 9, 2),
+    ("0+255 0-MOST", 9, 2),
+    ("0+0 0-256", 9, 2),
+    ("0+256 1+256", 8, 2),
+    ("0+MOST 1+MOST", 8, 2),
+    ("0+MOST 0+MOST 0-MOST 1+MOST", 8, 4),
+    ("0+MOST 0+MOST 0-MOST 0-MOST 1+MOST", 0, 0),
+    ("16wOVER", 6, 1),
+    ("0wOVER 16w0", 7, 1),
+    ("0j1 1wOVER", 7, 2),
+    ("0+MOST 1+OVER", 7, 2),
+    ("0j1 1wMOST", 17, 2),
+];
+
+/// The events of a case, where MOST stands for the highest cell and lock and OVER for one more.
+pub fn events_of(text: &str) -> Vec<Event> {
+    let most = LIMITS.object;
+    let text = text.replace("MOST", &most.to_string());
+    told(&text.replace("OVER", &(most + 1).to_string()))
+}
 
 /// Refusal 15: of oneself, and a second fork.
 const FIFTEEN: [Case; 21] = [
@@ -156,13 +205,14 @@ const IN_TWO_EVENTS: [Case; 14] = [
     ("0j1 2f0 1w0", 16, 2),
 ];
 
-const CASES: [&[Case]; 6] = [
+const CASES: [&[Case]; 7] = [
     &FIELDS,
     &FIFTEEN,
     &SIXTEEN,
     &SEVENTEEN,
     &IN_ONE_EVENT,
     &IN_TWO_EVENTS,
+    &OBJECTS,
 ];
 
 /// Events by threads that no case has.
@@ -186,13 +236,14 @@ pub fn write(book: &mut Book) {
     spoiled(book);
 }
 
-const TITLES: [&str; 6] = [
-    "refusals 6 and 7: a fork's and a join's object is a thread, a lock's goes to 255",
+const TITLES: [&str; 7] = [
+    "refusals 6 and 7: a fork's and a join's object is a thread, a lock's goes further",
     "refusal 15: a fork or a join of oneself, a second fork",
     "refusal 16: a fork of a thread that has an event",
     "refusal 17: an event of a joined thread; what is joined twice, before its fork or without",
     "15, 16, 17, then 8 or 9, in one event",
     "15, 16, 17, 8 and 9 in two events",
+    "refusal 7: cells and locks to 1,023",
 ];
 
 /// What is said of a case behind so many events.
@@ -205,7 +256,7 @@ fn said((_, number, event): Case, behind: usize) -> String {
 
 /// The case alone, behind and before other events; what is said is asserted.
 fn each_way(book: &mut Book, case: Case) {
-    let (events, padding) = (told(case.0), told(PADDING));
+    let (events, padding) = (events_of(case.0), told(PADDING));
     let ways: [(Vec<Event>, usize); 3] = [
         (events.clone(), 0),
         ([&padding[..], &events].concat(), padding.len()),
@@ -261,7 +312,7 @@ pub fn handed_cases() -> Vec<Handed> {
     let padding = told(PADDING);
     let mut all = Vec::new();
     for (text, _, _) in CASES.concat() {
-        let events = told(text);
+        let events = events_of(text);
         all.push(Handed::new(b"", &events));
         all.push(Handed::new(b"forks", &[&padding[..], &events].concat()));
     }

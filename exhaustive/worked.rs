@@ -2,10 +2,10 @@
 //! slips are those of request Three.
 //! Cells x = 0, y = 1, z = 2; locks l = 0, m = 1.
 
-use crate::askings::ask_all;
-use crate::book::{Book, LONGEST};
+use crate::askings::{ask_all, ask_all_of_refused};
+use crate::book::Book;
 use crate::questions::AREA;
-use crate::recording::{acq, file, told, w};
+use crate::recording::{acq, file, told, w, Limits, Recording, LIMITS, MAX_THREAD, OLD_LIMITS};
 
 pub const Q: &str = "0w1 0+0 0r0 0-0 1+0 1r0 1-0 1r1";
 pub const R: &str = "0+0 0r0 0w0 0-0 1+0 1r0 1w0 1-0";
@@ -53,7 +53,7 @@ pub fn write(book: &mut Book) {
 
 fn p_and_q(book: &mut Book) {
     put(book, "P: no events", "", &[]);
-    book.ask22(LONGEST);
+    book.ask22(OLD_LIMITS.long_list());
     book.ask2(0);
     book.ask2(1);
     book.ask3(1, 2, 0, AREA);
@@ -65,7 +65,7 @@ fn p_and_q(book: &mut Book) {
     book.ask6(b"stand 4");
     let title = "Q: (1, 8) is reported with 5 6 7";
     put(book, title, Q, &[(1, 8, &[5, 6, 7])]);
-    book.ask22(LONGEST);
+    book.ask22(OLD_LIMITS.long_list());
     book.ask3(1, 8, 8, AREA);
     book.ask3(1, 8, 7, AREA);
     book.ask3(8, 1, 8, AREA);
@@ -124,7 +124,7 @@ fn w_and_x(book: &mut Book) {
     let title = "W: (1, 7) is not reported, yet 2 3 6 passes";
     let races: [Race; 3] = [(1, 4, &[2, 3]), (3, 6, &[2]), (4, 7, &[2, 3, 6])];
     put(book, title, W, &races);
-    book.ask22(LONGEST);
+    book.ask22(OLD_LIMITS.long_list());
     book.ask3(1, 7, 7, AREA);
     book.ask5(1, 7, &[2, 3, 6]);
     book.assert_answer("yes");
@@ -142,7 +142,7 @@ fn y_and_z(book: &mut Book) {
     let title =
         "Y: (6, 10) is not reported, 5 leaves the lock held; nor is (1, 10), with 2 comes 7";
     put(book, title, Y, &[(1, 6, &[2, 3, 4, 5]), (4, 8, &[2, 3])]);
-    book.ask22(LONGEST);
+    book.ask22(OLD_LIMITS.long_list());
     book.ask3(6, 10, 10, AREA);
     book.ask5(6, 10, &[2, 3, 4, 5, 8, 9]);
     book.assert_answer("no 24");
@@ -154,7 +154,7 @@ fn y_and_z(book: &mut Book) {
     book.ask5(4, 8, &[2, 3]);
     let title = "Z: only (1, 7), with 5 6: the holder takes the lock again";
     put(book, title, Z, &[(1, 7, &[5, 6])]);
-    book.ask22(LONGEST);
+    book.ask22(OLD_LIMITS.long_list());
     book.ask3(1, 7, 10, AREA);
     book.ask5(1, 7, &[5, 6]);
     book.assert_answer("yes");
@@ -260,32 +260,56 @@ fn slips_of_reentry(book: &mut Book) {
     );
 }
 
-/// A recording at a limit or beyond it.
+/// A recording at a limit or beyond it. One that was refused before request Six is asked what it
+/// was asked then too.
 fn put_limit(book: &mut Book, bytes: &[u8]) {
     book.recording(bytes);
+    let recording = book.study().map(|study| &study.recording);
+    if recording.is_some_and(Recording::good_since_six) {
+        ask_all_of_refused(book);
+    }
     ask_all(book);
 }
 
 fn limits(book: &mut Book) {
-    let many = |n: usize| file(&[], &vec![w(0, 0); n]);
-    book.title("limit: 512 events good, 513 refused 3");
-    put_limit(book, &many(512));
-    book.ask22(LONGEST);
-    put_limit(book, &many(513));
-    book.title("limit: objects 255 and 256, cells and locks");
-    for object in [255, 256] {
-        put_limit(book, &file(&[], &[w(0, object)]));
-        put_limit(book, &file(&[], &[acq(0, object)]));
-    }
+    book.title("the limit before request Six: 512 events, and 513");
+    numbers_of_events(book, &OLD_LIMITS);
+    book.title("the limit before request Six: objects 255 and 256, cells and locks");
+    highest_objects(book, &OLD_LIMITS);
     book.title("limit: threads 15 and 16");
-    for thread in [15, 16] {
+    for thread in [MAX_THREAD, MAX_THREAD + 1] {
         put_limit(book, &file(&[], &[w(thread, 0)]));
     }
-    book.title("limit: files of 7 and 8 bytes, of 4,096 and 4,097 bytes");
+    book.title("limit: files of 7 and 8 bytes; before request Six: of 4,096 and 4,097 bytes");
     let least = file(&[], &[]);
     put_limit(book, &least[1..]);
     put_limit(book, &least);
-    for size in [4096, 4097] {
-        put_limit(book, &file(&vec![0x2E; size - 8], &[]));
+    longest_files(book, &OLD_LIMITS);
+    book.title("limit: 1,000 events good, 1,001 refused 3");
+    numbers_of_events(book, &LIMITS);
+    book.title("limit: objects 1,023 and 1,024, cells and locks");
+    highest_objects(book, &LIMITS);
+    book.title("limit: files of 16,384 and 16,385 bytes");
+    longest_files(book, &LIMITS);
+}
+
+fn numbers_of_events(book: &mut Book, limits: &Limits) {
+    let many = |n: usize| file(&[], &vec![w(0, 0); n]);
+    put_limit(book, &many(limits.events));
+    book.ask22(limits.long_list());
+    put_limit(book, &many(limits.events + 1));
+}
+
+fn highest_objects(book: &mut Book, limits: &Limits) {
+    for object in [limits.object, limits.object + 1] {
+        put_limit(book, &file(&[], &[w(0, object)]));
+        put_limit(book, &file(&[], &[acq(0, object)]));
+    }
+}
+
+fn longest_files(book: &mut Book, limits: &Limits) {
+    let most = limits.preamble(0);
+    for length in [most, most + 1] {
+        put_limit(book, &file(&vec![0x2E; length], &[]));
     }
 }

@@ -11,7 +11,7 @@
  * - Places that are `const` may overlap each other. A place that is not must overlap no other place of the call.
  * - While the call goes on, no other thread may write to a place that is `const`, nor read or write one that is not.
  * - What is left in a place is said with each function. A refusal changes nothing.
- * - Stack: TARUNGKIS_STACK_BYTES are enough for any call. The report takes most; bench/stack measures what it needs, some 106,000 bytes with the
+ * - Stack: TARUNGKIS_STACK_BYTES are enough for any call. The report takes most; bench/stack measures what it needs, some 139,000 bytes with the
  *   example's own arrays.
  */
 #ifndef TARUNGKIS_H
@@ -26,10 +26,10 @@ extern "C" {
 
 /* ---- limits */
 
-#define TARUNGKIS_MAX_BYTES 4096    /* of a recording */
-#define TARUNGKIS_MAX_EVENTS 512    /* of a recording */
+#define TARUNGKIS_MAX_BYTES 16384   /* of a recording */
+#define TARUNGKIS_MAX_EVENTS 1000   /* of a recording */
 #define TARUNGKIS_MAX_THREAD 15     /* the highest number of a thread */
-#define TARUNGKIS_MAX_OBJECT 255    /* the highest number of a cell or lock */
+#define TARUNGKIS_MAX_OBJECT 1023   /* the highest number of a cell or lock */
 #define TARUNGKIS_AREA_BYTES 65536  /* of a work area */
 #define TARUNGKIS_LINE_BYTES (25 + 6 * TARUNGKIS_MAX_EVENTS) /* of a buffer for the report, at least */
 #define TARUNGKIS_MAX_RACES (TARUNGKIS_MAX_EVENTS * TARUNGKIS_MAX_EVENTS) /* no recording has more */

@@ -13,9 +13,11 @@ use tarungkis::{Check, Observed, Refusal, AREA_BYTES, MAX_EVENTS};
 const ENTRY: u16 = 9999;
 const BYTE: u8 = 170;
 /// The most that is lent: entries of a list, bytes of a work area, bytes of the writer's buffer.
-const ENTRIES: usize = 600;
+const ENTRIES: usize = MAX_EVENTS + 100;
 const AREA: usize = AREA_BYTES + 8;
-const BUFFER: usize = 5000;
+const BUFFER: usize = 20_000;
+/// No race more is shown once those of a recording have more bytes than this.
+const RACES: usize = 16_000;
 /// The operator's note.
 const OPERATOR: &[u8] = b"o";
 
@@ -241,21 +243,27 @@ fn refused_file(file: &[u8], r: Refusal) -> String {
     .join(" | ")
 }
 
-/// All races by question 4, each with its witness by question 3 and what question 5 says to that.
+/// All races by question 4, each with its witness by question 3 and what question 5 says to that; behind so many bytes they are only counted.
 fn races(file: &[u8]) -> String {
-    let (mut pair, mut each) = ((0, 0), Vec::new());
+    let (mut pair, mut all, mut count) = ((0, 0), String::new(), 0);
     while let Ok(Some((a, b))) = after(file, pair.0, pair.1) {
+        pair = (a, b);
+        count += 1;
+        if all.len() > RACES {
+            continue;
+        }
         let mut list = [ENTRY; MAX_EVENTS];
         let shown = match verdict(file, a, b, &mut list) {
             Err(r) => refused(r),
             Ok(None) => "-".into(),
             Ok(Some(witness)) => format!("{} {}", listed(witness), check(file, a, b, witness)),
         };
-        each.push(format!("{a} {b}:{shown}"));
-        pair = (a, b);
+        let between = if count == 1 { "" } else { "; " };
+        write!(all, "{between}{a} {b}:{shown}").expect("a string");
     }
-    let count = each.len();
-    let all = if count == 0 { "none".into() } else { each.join("; ") };
+    if count == 0 {
+        all = "none".into();
+    }
     format!("{all} | races {count}")
 }
 

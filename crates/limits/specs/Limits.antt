@@ -16,7 +16,7 @@ trailerBytes = 8
 
 -- the most bytes of a file
 abbrev pub maxBytes : ℕ
-maxBytes = 4096
+maxBytes = 16384
 
 -- a file may have n bytes
 abbrev pub isFileSize : ℕ → Bool

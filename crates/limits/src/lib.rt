@@ -36,7 +36,7 @@ impl Event {
     pub const BYTES: usize = 4;
 
     // The highest number of a cell or lock.
-    pub const MAX_OBJECT: usize = 255;
+    pub const MAX_OBJECT: usize = 1023;
 
     // The places of a table by object.
     pub const OBJECTS: usize = Event::MAX_OBJECT + 1;
@@ -105,13 +105,13 @@ pub struct Recording {
 }
 
 impl Recording {
-    pub const MAX_EVENTS: usize = 512;
+    pub const MAX_EVENTS: usize = 1000;
 
     // The places of a table by event number: one for each event, and one for 0.
     pub const PLACES: usize = Recording::MAX_EVENTS + 1;
 
     // The most bytes of a file.
-    pub const MAX_BYTES: usize = 4096;
+    pub const MAX_BYTES: usize = 16384;
 
     // The trailer's bytes, and so the fewest of a file.
     pub const TRAILER_BYTES: usize = 8;

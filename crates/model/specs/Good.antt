@@ -54,13 +54,13 @@ pub record WellFormed (t : Trace) : Type 0 where
 
 -- the limits: the most events, the highest thread, the highest cell or lock
 abbrev pub maxEvents : ℕ
-maxEvents = 512
+maxEvents = 1000
 
 abbrev pub maxThread : ℕ
 maxThread = 15
 
 abbrev pub maxObject : ℕ
-maxObject = 255
+maxObject = 1023
 
 -- the limit of an object goes by the event's kind: that of a fork or join is a thread
 abbrev pub objectLimit : ℕ → ℕ
