@@ -107,16 +107,22 @@ struct Links {
     counts: Vec<bool>,
 }
 
+impl Links {
+    fn new(places: usize) -> Links {
+        Links {
+            previous: vec![0; places],
+            fork: vec![0; places],
+            observed: vec![0; places],
+            released: vec![0; places],
+            joined: vec![0; places],
+            counts: vec![false; places],
+        }
+    }
+}
+
 fn links(events: &[Event]) -> Links {
     let places = events.len();
-    let mut l = Links {
-        previous: vec![0; places],
-        fork: vec![0; places],
-        observed: vec![0; places],
-        released: vec![0; places],
-        joined: vec![0; places],
-        counts: vec![false; places],
-    };
+    let mut l = Links::new(places);
     let mut last_of_thread = [0; THREADS];
     let mut fork_of_thread = [0; THREADS];
     let mut last_write = [0; OBJECTS];

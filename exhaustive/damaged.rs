@@ -452,18 +452,23 @@ pub fn pairs_of(these: &[Damage], those: &[Damage]) -> Vec<Raw> {
     damaged
 }
 
+/// A recording with one of these events more at each place.
+pub fn one_more(book: &mut Book, recording: &str, more: &str) {
+    for place in 0..=told(recording).len() {
+        for event in told(more) {
+            let mut events = told(recording);
+            events.insert(place, event);
+            book.recording(&file(&[], &events));
+        }
+    }
+}
+
 /// Request Three: refusals 8 and 9 go by the holder and the depth.
 fn deep_locks(book: &mut Book) {
     book.title("refusals 8 and 9: locks held two and three deep");
     lock_cases(book, &DEEP_LOCKS);
     book.title("refusals 8 and 9: an acquire or a release more in Z at each place");
-    for place in 0..=told(Z).len() {
-        for event in told("0+0 1+0 2+0 0-0 1-0 2-0") {
-            let mut events = told(Z);
-            events.insert(place, event);
-            book.recording(&file(&[], &events));
-        }
-    }
+    one_more(book, Z, "0+0 1+0 2+0 0-0 1-0 2-0");
     book.title("good recordings with re-entry with a byte changed, dropped or added");
     let mut chance = Chance::new(55);
     for _ in 0..200 {

@@ -5,7 +5,7 @@ use crate::askings::ask_a_few;
 use crate::book::Book;
 use crate::chance::Chance;
 use crate::forks;
-use crate::random::{edit, like_the_book, random_access, random_stock, Random, Stock};
+use crate::random::{edit, like_the_book, put, random_access, random_stock, Random, Stock};
 use crate::recording::{
     acq, count_threads, file, fork, join, may_come_next, r, rel, told, w, Event, Kind, Recording,
 };
@@ -129,9 +129,7 @@ pub fn write(book: &mut Book) {
 /// One random recording with its askings.
 pub fn put_one(book: &mut Book, chance: &mut Chance) {
     let events = random_family(chance);
-    book.recording(&file(&[], &events));
-    ask_a_few(book, chance, 6);
-    book.random.push(events);
+    put(book, chance, events, 6);
 }
 
 /// One longer recording by two to four threads.
@@ -140,9 +138,7 @@ pub fn put_longer(book: &mut Book, chance: &mut Chance, turn: usize) {
         let n = chance.from_to(10, 14);
         family(chance, stock, n)
     });
-    book.recording(&file(&[], &events));
-    ask_a_few(book, chance, 3);
-    book.random.push(events);
+    put(book, chance, events, 3);
 }
 
 /// A random recording of 6 to 9 events with forks and joins; half of them are like the examples.

@@ -53,6 +53,13 @@ impl Random {
     }
 }
 
+/// Takes a random recording, without a preamble, and asks so many things of it.
+pub fn put(book: &mut Book, chance: &mut Chance, events: Vec<Event>, askings: usize) {
+    book.recording(&file(&[], &events));
+    ask_a_few(book, chance, askings);
+    book.random.push(events);
+}
+
 pub fn write(book: &mut Book) {
     let random = Random {
         titles: [
@@ -80,9 +87,7 @@ pub fn put_longer(book: &mut Book, chance: &mut Chance, turn: usize) {
             accesses_only(chance, &stock, n)
         }
     };
-    book.recording(&file(&[], &events));
-    ask_a_few(book, chance, 3);
-    book.random.push(events);
+    put(book, chance, events, 3);
 }
 
 /// One random recording with its askings.

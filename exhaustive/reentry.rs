@@ -1,11 +1,12 @@
 //! Group 4, request Three: random recordings in which a lock is taken again.
 
-use crate::askings::ask_a_few;
 use crate::book::Book;
 use crate::chance::Chance;
 use crate::holds::{has_reentry, hold};
-use crate::random::{edit, in_sections, like_the_book, random_access, random_stock, Random, Stock};
-use crate::recording::{acq, count_threads, file, rel, told, Event};
+use crate::random::{
+    edit, in_sections, like_the_book, put, random_access, random_stock, Random, Stock,
+};
+use crate::recording::{acq, count_threads, rel, told, Event};
 use crate::study::depends_on_depth;
 
 const RECORDINGS: usize = 1500;
@@ -28,9 +29,7 @@ pub fn write(book: &mut Book) {
 /// One random recording with its askings.
 pub fn put_one(book: &mut Book, chance: &mut Chance) {
     let events = random_reentry(chance);
-    book.recording(&file(&[], &events));
-    ask_a_few(book, chance, 6);
-    book.random.push(events);
+    put(book, chance, events, 6);
 }
 
 /// One longer recording by two or three threads.
@@ -42,9 +41,7 @@ pub fn put_longer(book: &mut Book, chance: &mut Chance, turn: usize) {
             _ => in_sections(chance, stock, n, deep_script),
         }
     });
-    book.recording(&file(&[], &events));
-    ask_a_few(book, chance, 3);
-    book.random.push(events);
+    put(book, chance, events, 3);
 }
 
 /// A random recording of 6 to 9 events in which a lock is taken again.

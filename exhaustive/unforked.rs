@@ -4,7 +4,7 @@
 
 use crate::book::Book;
 use crate::chance::Chance;
-use crate::damaged::{ask_of_refused, spoil, Raw};
+use crate::damaged::{ask_of_refused, one_more, spoil, Raw};
 use crate::families::random_family;
 use crate::forks::BESIDE_THE_CHILD;
 use crate::recording::{file, told, Event, LIMITS};
@@ -232,7 +232,9 @@ pub fn write(book: &mut Book) {
         ask_of_refused(book);
     }
     unknown_kinds(book);
-    one_more(book);
+    book.title("a fork or a join more at each place");
+    let more = "0f1 0j1 1f0 1j0 2f1 2j1 2f0 2j0 1f1 0f2 0j2 1j2";
+    one_more(book, BESIDE_THE_CHILD, more);
     spoiled(book);
 }
 
@@ -281,18 +283,6 @@ fn unknown_kinds(book: &mut Book) {
             raw.events[1][1] = kind;
             book.recording(&raw.bytes());
             assert!(book.stdout.trim_end().ends_with("refused 5 at 2 | note 0"));
-        }
-    }
-}
-
-/// A fork or a join more in a good recording at each place.
-fn one_more(book: &mut Book) {
-    book.title("a fork or a join more at each place");
-    for place in 0..=told(BESIDE_THE_CHILD).len() {
-        for event in told("0f1 0j1 1f0 1j0 2f1 2j1 2f0 2j0 1f1 0f2 0j2 1j2") {
-            let mut events = told(BESIDE_THE_CHILD);
-            events.insert(place, event);
-            book.recording(&file(&[], &events));
         }
     }
 }

@@ -19,7 +19,7 @@ use Rattle.composing.specs.Texts.{extend, lines, said}
 use Rattle.wording.proofs.FirstLaws.{first-rest, first-absent}
 use Rattle.wording.proofs.LineLaws.{each-word}
 use Rattle.showing.specs.Shown.{notesOf, linesWith, textFrom, textWith}
-use Rattle.showing.specs.Pieces.{noteByte, noteBytes, notesText, eventText, eventsText, lineBytes}
+use Rattle.showing.specs.Pieces.{noteByte, byteWidth, noteBytes, notesText, eventText, eventsText, eventLineBytes}
 use Rattle.showing.proofs.TextLaws.{Whole, text-append, lines-some}
 
 -- ---- they are lines
@@ -108,15 +108,15 @@ unfolding notesText notesOf
 some-notes [] ne = absurd (ne refl)
 some-notes (b ∷ p) ne = notes-bytes (b ∷ p)
 
-byte-few : (b : ℕ) → length (noteByte b) ≤ 6
+byte-few : (b : ℕ) → length (noteByte b) ≤ byteWidth
 byte-few b = by-cases (eqb b 10) (λ e. rw e (omega arith)) (λ e. rw e (omega arith))
 
-bytes-few : (p : List ℕ) → length (noteBytes p) ≤ 6 * length p
+bytes-few : (p : List ℕ) → length (noteBytes p) ≤ byteWidth * length p
 unfolding noteBytes
 bytes-few [] = omega arith
 bytes-few (b ∷ p) = let h = byte-few b in let i = bytes-few p in rw length-append (omega arith)
 
-pub notes-few : (p : List ℕ) → length (notesText p) ≤ 6 * length p + 6
+pub notes-few : (p : List ℕ) → length (notesText p) ≤ byteWidth * length p + byteWidth
 notes-few p =
     by-cases (eqb (length p) 0) (λ e. rw (no-notes p (eqb-true _ _ e)) (omega arith))
     (λ e. let i = bytes-few p in rw (some-notes p (eqb-false _ _ e)) (simp length-append (omega arith)))
@@ -140,7 +140,7 @@ events-next t (suc i) h g =
 pub word-few : (k : ℕ) → length (kindWord k) ≤ 7
 word-few = each-word (λ w. length w ≤ 7) (omega arith) (omega arith) (omega arith) (omega arith) (omega arith) (omega arith)
 
-event-few : (e : Event) → e .thread < 1000 → e .object < 100000 → length (eventText e) ≤ lineBytes
+event-few : (e : Event) → e .thread < 1000 → e .object < 100000 → length (eventText e) ≤ eventLineBytes
 unfolding eventText eventLine
 event-few e h g =
     let a = decimal-few 2 (e .thread) (omega arith) in
@@ -149,7 +149,7 @@ event-few e h g =
     simp length-append (omega arith)
 
 module _ (t : Trace) (g : Good t) where
-  events-few : (i : ℕ) → i ≤ length t → length (eventsText (take i t)) ≤ lineBytes * i
+  events-few : (i : ℕ) → i ≤ length t → length (eventsText (take i t)) ≤ eventLineBytes * i
   unfolding eventsText textFrom
   events-few zero h = omega arith
   events-few (suc i) h =
@@ -161,7 +161,7 @@ module _ (t : Trace) (g : Good t) where
       let z : suc i - 1 ≡ i = omega arith in
       rw (events-next t (suc i) (omega arith) h, length-append, z) (omega arith)
 
-  pub all-events-few : length (eventsText t) ≤ lineBytes * length t
+  pub all-events-few : length (eventsText t) ≤ eventLineBytes * length t
   all-events-few = rw (take-all (length t) t (omega arith)) at (events-few (length t) (omega arith))
 
 -- ---- the text

@@ -21,7 +21,7 @@ use Rattle.judging.specs.Judged.{eventsOf, refusalOf, IsGoodFile}
 use Rattle.judging.proofs.FileLaws.{judged-refused, judged-clean, judged-good, judged-placed}
 use Rattle.composing.specs.Texts.{textBytes}
 use Rattle.showing.specs.Shown.{textOf, answerShow}
-use Rattle.showing.specs.Pieces.{notesText, eventsText, EventsLent, TextLent}
+use Rattle.showing.specs.Pieces.{byteWidth, notesText, eventsText, EventsLent, TextLent}
 use Rattle.showing.specs.declared.Shown.the-variants.{Refused, Text}
 use Rattle.showing.proofs.LineLaws.{notes-few, all-events-few, text-parts}
 
@@ -37,7 +37,7 @@ module _ (s : List ℕ) (g : IsGoodFile s) where
       omega arith
 
   -- a text has at most six bytes for each byte of its file
-  pub text-short : length (textOf s) ≤ 6 * length s
+  pub text-short : length (textOf s) ≤ byteWidth * length s
   text-short =
       let b = bytes in
       let p = notes-few (preamble s) in
@@ -61,7 +61,7 @@ module _ {s : List ℕ} {t : Recording} {out : List ℕ} (l : TextLent s t out) 
   unfolding preamble
   front-is = ap (λ (n : ℕ). take n s) start-is
 
-  pub notes-room : 6 * length (take (t .start) s) + 6 ≤ length out
+  pub notes-room : byteWidth * length (take (t .start) s) + byteWidth ≤ length out
   notes-room = let b = bytes s (l .good) in let m = l .good .layout .sized .most in let r = l .room in rw front-is (omega arith)
 
   module _ (ev : List ℕ) (part : ev ≡ partOf s) {mid : List ℕ} {p : ℕ} (a : Appends (notesText (take (t .start) s)) 0 out mid p) where

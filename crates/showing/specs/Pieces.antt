@@ -20,6 +20,10 @@ use Rattle.showing.specs.Shown.{notesOf, textFrom}
 abbrev pub noteByte : ℕ → List ℕ
 noteByte b = cond (eqb b lineFeed) (lineFeed ∷ noteWord) (b ∷ [])
 
+-- so many bytes of a text are enough for a byte of a file: a line feed and `note `
+abbrev pub byteWidth : ℕ
+byteWidth = 6
+
 unfoldable pub noteBytes : List ℕ → List ℕ
 noteBytes [] = []
 noteBytes (b ∷ p) = noteByte b ++ noteBytes p
@@ -43,9 +47,9 @@ eventsText es = textFrom (map eventLine es)
 abbrev pub eventTextAt : List ℕ → ℕ → List ℕ
 eventTextAt ev k = eventText (at (traceIn ev) k)
 
--- no event's line is longer: six for each byte of the event
-abbrev pub lineBytes : ℕ
-lineBytes = 6 * eventBytes
+-- no event's line is longer than so many for each of its bytes
+abbrev pub eventLineBytes : ℕ
+eventLineBytes = byteWidth * eventBytes
 
 -- an event of a good trace
 pub record GoodAt (ev : List ℕ) (k : ℕ) : Type 0 where
@@ -55,7 +59,7 @@ pub record GoodAt (ev : List ℕ) (k : ℕ) : Type 0 where
 -- the events of a good trace, and room for their lines
 pub record EventsLent (ev out : List ℕ) (end : ℕ) : Type 0 where
   pub good : Good (traceIn ev)
-  pub room : end + lineBytes * length (traceIn ev) ≤ length out
+  pub room : end + eventLineBytes * length (traceIn ev) ≤ length out
 
 -- a good file, where its events begin, and room for any text
 pub record TextLent (s : List ℕ) (t : Recording) (out : List ℕ) : Type 0 where

@@ -15,7 +15,7 @@ ghost use Rattle.format.specs.Bytes.{traceIn};
 ghost use Rattle.appending.specs.Decimal.{decimal};
 ghost use Rattle.appending.specs.Appended.{Appends, AppendsShort};
 ghost use Rattle.showing.specs.Shown.{textOf, answerShow};
-ghost use Rattle.showing.specs.Pieces.{noteByte, notesText, spacedKind, eventText, eventTextAt, eventsText, lineBytes, GoodAt, EventsLent, TextLent};
+ghost use Rattle.showing.specs.Pieces.{noteByte, byteWidth, notesText, spacedKind, eventText, eventTextAt, eventsText, eventLineBytes, GoodAt, EventsLent, TextLent};
 
 // How many bytes the text has, or why there is none.
 pub enum Shown {
@@ -27,8 +27,8 @@ pub enum Shown {
 
 // A byte of the preamble. Behind a line feed the next note line begins.
 fn put_note_byte(out: &mut [u8], at: usize, b: u8) -> usize
-    requires { ⌜ at + 6 ≤ length (now out) ⌝ }
-    ensures { λ r. ⌜ AppendsShort 6 (noteByte b) at (now (out .entry)) (now (out .exit)) r ⌝ }
+    requires { ⌜ at + byteWidth ≤ length (now out) ⌝ }
+    ensures { λ r. ⌜ AppendsShort byteWidth (noteByte b) at (now (out .entry)) (now (out .exit)) r ⌝ }
 {
     let end = put_byte(out, at, b);
     if b != NoteByte::LINE_FEED {
@@ -39,7 +39,7 @@ fn put_note_byte(out: &mut [u8], at: usize, b: u8) -> usize
 
 // The note lines of a preamble, in the front of the buffer. An empty one has none.
 fn put_notes(out: &mut [u8], preamble: &[u8]) -> usize
-    requires { ⌜ 6 * length (now preamble) + 6 ≤ length (now out) ⌝ }
+    requires { ⌜ byteWidth * length (now preamble) + byteWidth ≤ length (now out) ⌝ }
     ensures { λ r. ⌜ Appends (notesText (now (preamble .entry))) 0 (now (out .entry)) (now (out .exit)) r ⌝ }
 {
     if preamble.len() == 0 {
@@ -89,8 +89,8 @@ fn put_kind(out: &mut [u8], at: usize, kind: u8) -> usize
 
 // An event's line.
 fn put_line(out: &mut [u8], at: usize, thread: u8, kind: u8, object: u16) -> usize
-    requires { ⌜ at + lineBytes ≤ length (now out) ⌝ }
-    ensures { λ r. ⌜ AppendsShort lineBytes (eventText (record { thread = thread; kind = kind; object = object })) at (now (out .entry)) (now (out .exit)) r ⌝ }
+    requires { ⌜ at + eventLineBytes ≤ length (now out) ⌝ }
+    ensures { λ r. ⌜ AppendsShort eventLineBytes (eventText (record { thread = thread; kind = kind; object = object })) at (now (out .entry)) (now (out .exit)) r ⌝ }
 {
     let first = put_thread(out, at, thread);
     let second = put_kind(out, first, kind);
@@ -101,8 +101,8 @@ fn put_line(out: &mut [u8], at: usize, thread: u8, kind: u8, object: u16) -> usi
 // The line of event k.
 fn put_event(out: &mut [u8], at: usize, ev: &[u8], k: usize) -> usize
     requires { ⌜ GoodAt (now ev) k ⌝ }
-    requires { ⌜ at + lineBytes ≤ length (now out) ⌝ }
-    ensures { λ r. ⌜ AppendsShort lineBytes (eventTextAt (now (ev .entry)) k) at (now (out .entry)) (now (out .exit)) r ⌝ }
+    requires { ⌜ at + eventLineBytes ≤ length (now out) ⌝ }
+    ensures { λ r. ⌜ AppendsShort eventLineBytes (eventTextAt (now (ev .entry)) k) at (now (out .entry)) (now (out .exit)) r ⌝ }
 {
     let thread = format::thread_at(ev, k);
     let kind = format::kind_at(ev, k);
