@@ -1,5 +1,7 @@
 // The pieces of a line, put into a lent buffer behind the bytes that are in use: a byte, a word, a number in decimal. Each function takes how
 // many bytes are in use and gives how many are then.
+#![tactic(auto)]
+
 ghost use Rattle.std.specs.Prelude.{◌+◌, ◌≤◌, ◌<◌, ◌≡◌, ◌∷◌, [], length};
 ghost use Rattle.appending.specs.Decimal.{decimal, spaced, event_width, number_width};
 ghost use Rattle.appending.specs.Appended.{Appends, AppendsShort};

@@ -1,5 +1,7 @@
 // Asks question 3 or 5 of one recording. Standard input has a line of numbers, which are the question's, the two events' and, for question 5, those
 // of the proposed list; behind it stand the recording's bytes. The answer is one line.
+#![tactic(auto)]
+
 use input::Input;
 use libc::STDERR_FILENO;
 use limits::Recording;

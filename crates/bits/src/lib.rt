@@ -1,4 +1,6 @@
 // Sets of numbers below 16 in a u16, and the work area that a caller lends.
+#![tactic(auto)]
+
 ghost use Rattle.std.specs.Prelude.{◌≡◌, ◌<◌, length, replicate};
 ghost use Rattle.bits.specs.Mask.{holds, including};
 

@@ -1,5 +1,7 @@
 // What bounds the staircase of two lists of events, p of the moved thread and q of the others: where the intervals of p end, and how far
 // the moved thread must have passed at least before each event of q.
+#![tactic(auto)]
+
 ghost use Rattle.std.specs.Prelude.{◌≡◌, ◌+◌, ◌≤◌, ◌<◌, length, replicate};
 ghost use Rattle.model.specs.Trace.{Valid};
 ghost use Rattle.table.specs.Table.{trace, Linked};

@@ -1,6 +1,8 @@
 // Is a list a correct reordering? Question 5: and does it bring both accesses next? One pass over it keeps three lists of the events passed:
 // `last`, the last event of each thread; `writes`, the last write of each cell (both 0 for none);
 // and `locks`, who holds each lock: 0 for nobody, c + 1 for thread c.
+#![tactic(auto)]
+
 ghost use Rattle.std.specs.Prelude.{◌≡◌, [], ◌≤◌, length};
 ghost use Rattle.std.proofs.Math.Option.{none};
 ghost use Rattle.model.specs.Trace.{Valid};

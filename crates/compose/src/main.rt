@@ -1,4 +1,6 @@
 // The compose program: reads a text from standard input and writes the recording that it makes to standard output.
+#![tactic(auto)]
+
 ghost use Rattle.std.specs.Prelude.{◌≡◌, ◌≤◌, length};
 ghost use Rattle.limits.specs.Refusals.{event_of};
 ghost use Rattle.composing.specs.Texts.{text_bytes, lines};

@@ -1,4 +1,6 @@
 // Reads a recording from text: note lines, then event lines, and comments anywhere. No other crate reads such a text.
+#![tactic(auto)]
+
 ghost use Rattle.std.specs.Prelude.{◌≡◌, ◌+◌, ◌≤◌, ◌<◌, length};
 ghost use Rattle.composing.specs.Texts.{lines, line_of, Lent, ReadsText};
 ghost use Rattle.composing.specs.Parts.{note_bytes, LineEnd, NextLine, Skips, NextSaid, NotesUpTo, ListsLent, ReadsEvents, StopsAt, BadAt};

@@ -1,6 +1,8 @@
 // The causal cone of some events (the roots), by counts: the last event of each thread that is in it, its top. A cone is the beginning of
 // each thread, so this is all of it. Then its events in two lists: those of one thread, and those of all others.
 // From a top the events of its thread are followed back, and each brings in its own: that raises tops. This stops as soon as a root is in the cone.
+#![tactic(auto)]
+
 ghost use Rattle.std.specs.Prelude.{◌≡◌, ◌+◌, ◌≤◌, ◌<◌, max, length, get_or, replicate};
 ghost use Rattle.model.specs.Trace.{Valid, thread_of};
 ghost use Rattle.model.specs.Lists.{all_but};

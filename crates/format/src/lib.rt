@@ -1,4 +1,6 @@
 // The format of a recording's file: the layout, and events out of bytes. No other crate reads an event's bytes or the trailer's.
+#![tactic(auto)]
+
 ghost use Rattle.std.specs.Prelude.{◌≡◌, ◌+◌, ◌≤◌, ◌<◌, length};
 ghost use Rattle.model.specs.Trace.{Valid, at, thread_of, kind_of, object_of};
 ghost use Rattle.limits.specs.Limits.{event_bytes};

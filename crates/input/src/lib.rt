@@ -1,4 +1,6 @@
 // Standard input, read whole.
+#![tactic(auto)]
+
 ghost use Rattle.input.specs.Input.{Within};
 
 use libc::STDIN_FILENO;

@@ -1,4 +1,6 @@
 // Judging a file: refusals 1 to 4, 13, 5 to 7, 15 to 17, 8 and 9, in this order.
+#![tactic(auto)]
+
 ghost use Rattle.std.specs.Prelude.{◌≡◌, ◌||◌, ◌&&◌, ◌∷◌, eqb};
 ghost use Rattle.model.specs.Trace.{Valid, fork, thread_of, kind_of, object_of};
 ghost use Rattle.model.specs.Lists.{before};

@@ -1,4 +1,6 @@
 // What is limited, each kind of thing with its limits, and the refusals.
+#![tactic(auto)]
+
 ghost use Rattle.std.specs.Prelude.{◌≡◌, leb};
 ghost use Rattle.model.specs.Good.{max_events, max_thread, object_limit, is_known_kind};
 ghost use Rattle.limits.specs.Limits.{is_file_size, is_area_size, no_locks};

@@ -1,5 +1,7 @@
 // The lines of the nightly report, written into a lent buffer behind the bytes that are in use. Each function takes how many are in use and
 // gives how many are then.
+#![tactic(auto)]
+
 ghost use Rattle.std.specs.Prelude.{◌+◌, ◌*◌, ◌≤◌, length, take};
 ghost use Rattle.appending.specs.Decimal.{event_width};
 ghost use Rattle.appending.specs.Appended.{Appends, AppendsShort};

@@ -1,7 +1,7 @@
 -- The matching release of an outermost acquire is the event after which nobody holds its lock any more.
 use Prim.Native.Nat.{ℕ, zero, suc, ◌+◌, ◌-◌, ◌≤◌, ◌<◌}
 use native.Mathlib.Omega.{arith}
-use mathlib.Core.Path.{◌≡◌, refl, ◌∙◌, ap}
+use mathlib.Core.Path.{◌≡◌, refl, ◌∙◌, ap, sym}
 use mathlib.Core.Logic.{◌≢◌, ⊎_elim, ◌↔◌}
 use mathlib.Core.Bool.{Bool, true, false, cond, ◌&&◌}
 use lib.ListN.{length}
@@ -89,7 +89,7 @@ module _ (t : Trace) (w : WellFormed t) (k : ℕ) where
     after-own : kind_of t (suc m) ≡ release → object_of t (suc m) ≡ lock → (b : Bool) → is_last t (suc m) ≡ b → holder t lock (up_to (suc m)) ≡ cond b 0 (suc (thread_of t k))
     after-own r o b e =
         let h = after-release t (up_to m) (locked_before t w (suc m) v.bounded) (suc m) refl r (w.given_back (suc m) v r) in
-        (rw o at h) ∙ rw (e, own-release r o)
+        ap (λ (x : ℕ). holder t x (up_to (suc m))) (sym o) ∙ h ∙ rw (e, own-release r o)
 
     -- only its own last release frees it
     pub still_held : k ≤ m → gives_back t k (suc m) ≡ false → Holds (suc m)

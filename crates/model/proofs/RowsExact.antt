@@ -78,6 +78,9 @@ module _ {A : Type 0} (paper : A → Answer) where
   -- the tests answer as their rows do
   pub tests_first : (m : List Bool) (n : List A) (l : List Row) → Tested m l → map paper n ≡ map (λ (r : Row). r.answer) l → First l (said paper (first m n))
   tests_first [] n [] t e = refl
+  tests_first [] n (r ∷ l) t e = elim t [ ]
+  tests_first (b ∷ m) [] [] t e = elim t [ ]
+  tests_first (b ∷ m) (x ∷ n) [] t e = elim t [ ]
   tests_first (b ∷ m) [] (r ∷ l) t e = absurd (nil≢cons e)
   tests_first (b ∷ m) (x ∷ n) (r ∷ l) t e =
       by_cases b

@@ -1,4 +1,6 @@
 // The nightly program: reads one file from standard input and writes its report to standard output.
+#![tactic(auto)]
+
 ghost use Rattle.std.specs.Prelude.{◌≤◌, length};
 ghost use Rattle.report.specs.Rest.{at_start};
 ghost use Rattle.report.specs.Writing.{Starting, Writing};

@@ -1,4 +1,6 @@
 // Answers as numbers, for other languages: each has its case in the lowest byte, and up to two numbers behind it.
+#![tactic(auto)]
+
 ghost use Rattle.std.specs.Prelude.{◌≡◌};
 ghost use Rattle.numbers.specs.Numbers.{parts, packed};
 ghost use Rattle.numbers.specs.Packed.{of_refusal, of_judgement, of_observed, of_observations, of_finding, of_next, of_check, of_noted, of_written, NotedSmall, WrittenSmall};

@@ -1,4 +1,6 @@
 // Question 2 on the events of a good file: which write does an event see? Asked for one event, or for all of them at once.
+#![tactic(auto)]
+
 ghost use Rattle.std.specs.Prelude.{◌≡◌};
 ghost use Rattle.std.proofs.Math.Option.{none};
 ghost use Rattle.table.specs.Table.{trace, Linked};

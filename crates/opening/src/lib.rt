@@ -1,5 +1,7 @@
 // From a file's bytes to its table, or its refusal: what every question but the note does first. The table is filled in place, one pass over the events for each
 // column. The first two are the events' own, from the bytes; every further pass reads the table alone.
+#![tactic(auto)]
+
 ghost use Rattle.std.specs.Prelude.{◌≡◌, suc, ◌+◌, ◌-◌, ◌≤◌, ◌<◌, length, replicate, ◌≢◌};
 ghost use Rattle.model.specs.Trace.{Valid, join, kind_of};
 ghost use Rattle.model.specs.Good.{Good, max_thread};

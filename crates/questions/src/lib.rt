@@ -1,5 +1,7 @@
 // The public questions. Each takes a file's bytes, judges them first, and asks nothing of its caller. The writer, which asks nothing either,
 // is `write_file` of the crate writing.
+#![tactic(auto)]
+
 ghost use Rattle.std.specs.Prelude.{◌≡◌, ◌≤◌, length};
 ghost use Rattle.questions.specs.Answers.{answerJudge, answerObserved};
 ghost use Rattle.questions.specs.Observations.{answer_observations};

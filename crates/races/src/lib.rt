@@ -1,5 +1,7 @@
 // The races of a judged recording: the witness of a conflicting pair, and the races in question 4's order, one after the other,
 // each with its witness. No pair is asked twice.
+#![tactic(auto)]
+
 ghost use Rattle.std.specs.Prelude.{◌≡◌, true, ◌≤◌, length};
 ghost use Rattle.model.specs.Lists.{in_front};
 ghost use Rattle.model.specs.Good.{max_thread};

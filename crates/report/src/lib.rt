@@ -1,4 +1,6 @@
 // The nightly report of a file, in a lent buffer: as many lines as surely fit, from place to place.
+#![tactic(auto)]
+
 ghost use Rattle.std.specs.Prelude.{◌*◌, ◌≤◌, ◌≡◌, true};
 ghost use Rattle.table.specs.Table.{trace, Linked};
 ghost use Rattle.appending.specs.Appended.{Appends};

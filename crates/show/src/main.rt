@@ -1,4 +1,6 @@
 // The show program: reads a recording from standard input and writes its text to standard output.
+#![tactic(auto)]
+
 use composing::TEXT_BYTES;
 use input::Input;
 use libc::{STDERR_FILENO, STDOUT_FILENO};

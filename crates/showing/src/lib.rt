@@ -1,4 +1,6 @@
 // A recording as the text that makes it. No other crate puts such a text together.
+#![tactic(auto)]
+
 ghost use Rattle.std.specs.Prelude.{◌≡◌, ◌+◌, ◌*◌, ◌≤◌, length};
 ghost use Rattle.format.specs.Bytes.{trace_in};
 ghost use Rattle.appending.specs.Decimal.{decimal};

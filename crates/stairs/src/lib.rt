@@ -1,5 +1,7 @@
 // The least staircase of two lists of events: how far the moved thread's, p, must have passed before each of the others', q; and the merge by a staircase.
 // A pass goes along q once, with as much of p passed as its events need; passes repeat until one raises nothing.
+#![tactic(auto)]
+
 ghost use Rattle.std.specs.Prelude.{◌≡◌, ◌≢◌, ◌<◌, length};
 ghost use Rattle.model.specs.Trace.{Valid};
 ghost use Rattle.model.specs.Lists.{in_front};

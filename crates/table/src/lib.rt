@@ -1,4 +1,6 @@
 // A judged recording as one table: a row of words for each event, its own and its links. Only this crate knows the layout, and `opening`, which fills it.
+#![tactic(auto)]
+
 ghost use Rattle.std.specs.Prelude.{◌≡◌, ◌≤◌, ◌<◌, length};
 ghost use Rattle.model.specs.Trace.{Valid, fork, thread_of, kind_of, object_of, does};
 ghost use Rattle.model.specs.Lists.{threads};

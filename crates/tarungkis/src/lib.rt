@@ -1,4 +1,6 @@
 // The static library for other languages: the six questions, the writer and the report, with a number in place of an answer's enum.
+#![tactic(auto)]
+
 ghost use Rattle.std.specs.Prelude.{◌≡◌};
 ghost use Rattle.questions.specs.Answers.{answerJudge, answerObserved};
 ghost use Rattle.questions.specs.Observations.{answer_observations};

@@ -1,4 +1,6 @@
 // The text that a program reads and writes: numbers of a line; and words, numbers and refusals on standard output.
+#![tactic(auto)]
+
 ghost use Rattle.std.specs.Prelude.{◌≤◌, ◌<◌, length};
 
 use libc::STDOUT_FILENO;

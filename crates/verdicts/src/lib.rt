@@ -1,4 +1,6 @@
 // Questions 3 and 4 on the table of a good recording: is a pair reported, and by which witness? Which is the next race?
+#![tactic(auto)]
+
 ghost use Rattle.std.specs.Prelude.{◌≡◌};
 ghost use Rattle.std.proofs.Math.Option.{none};
 ghost use Rattle.decision.specs.Decision.{witness, next_race};

@@ -1,4 +1,6 @@
 // Reads a line of a recording as text, a note line or an event line, and says why a bad one is bad. No other crate looks into a line, but for a comment's first byte.
+#![tactic(auto)]
+
 ghost use Rattle.std.specs.Prelude.{◌≡◌, ◌≤◌, length};
 ghost use Rattle.wording.specs.Lines.{Reads};
 ghost use Rattle.wording.specs.Parts.{SaysNote, first_at, digits_from, ReadsNumber, ReadsKind, ReadsAction, ReadsEvent};

@@ -1,4 +1,6 @@
 // The writer: the file of a preamble and events, in the front of a lent buffer, or the refusal that reading it would give.
+#![tactic(auto)]
+
 ghost use Rattle.std.specs.Prelude.{◌≡◌, ◌+◌, ◌*◌, ◌≤◌, ◌<◌, length};
 ghost use Rattle.limits.specs.Limits.{event_bytes, is_file_size, trailer_bytes};
 ghost use Rattle.writing.specs.Written.{written_bytes, Fitting, bytes16, bytes32, written_event, written_events, written_trailer, trace_from, Even, file_with};
