@@ -54,7 +54,7 @@ module _ (t : Trace) (w : WellFormed t) where
     passed = let z = h.passed in omega arith;
     held = λ i p q.
         by_cases (eqb i (suc n))
-        (λ z. let y : i ≡ suc n = eqb-true _ _ z in rw (y, h.lock, h.thread) e)
+        (λ z. let y : i ≡ suc n = eqb-true _ _ z in ap (λ (k : ℕ). holder t (object_of t h.start) (up_to k)) y ∙ ap (λ (l : ℕ). holder t l (up_to (suc n))) h.lock ∙ e ∙ ap suc (sym h.thread))
         (λ z. let y : i ≢ suc n = eqb-false _ _ z in h.held i p (omega arith));
   }
 

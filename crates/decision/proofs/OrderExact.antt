@@ -129,7 +129,7 @@ module _ {A : Type 0} (of : A → List ℕ) where
       by_cases (is_after k (of y))
       (λ p.
       let q : y ≡ x = some-injective _ _ (rw p at e) in
-      rw (p, ← q, false-after (of y) (of y) (not_itself (of y)), all_after (of y) l s.0))
+      subst (λ (z : A). rest_after of k (y ∷ l) ≡ z ∷ rest_after of (of z) (y ∷ l)) q (rw (p, false-after (of y) (of y) (not_itself (of y)), all_after (of y) l s.0)))
       (λ p.
       let m = (first_some of k l s.1 x (rw p at e)).answer in
       rw (p, false-after (of x) (of y) (not_both (of y) (of x) (s.0 x m))) (first_rest k l s.1 x (rw p at e)))

@@ -125,10 +125,14 @@ module _ (t : Trace) (k : ℕ) where
 -- no test is true exactly where no row is the case
 any_false : (m : List Bool) (l : List Row) → Tested m l → any_true m ≡ false → Quiet l
 any_false [] [] t e = tt
+any_false [] (r ∷ l) t e = elim t [ ]
+any_false (b ∷ m) [] t e = elim t [ ]
 any_false (b ∷ m) (r ∷ l) t e = by_cases b (λ p. clash (rw p) e) (λ p. ((λ c. clash (t.0.1 c) p), any_false m l t.1 (rw p at e)))
 
 any-true : (m : List Bool) (l : List Row) → Tested m l → Quiet l → ¬ (any_true m ≡ true)
 any-true [] [] t q e = false≢true e
+any-true [] (r ∷ l) t q e = elim t [ ]
+any-true (b ∷ m) [] t q e = elim t [ ]
 any-true (b ∷ m) (r ∷ l) t q e = ⊎_elim (λ p. q.0 (t.0.0 p)) (λ p. any-true m l t.1 q.1 p) (either_true b (any_true m) e)
 
 module _ (t : Trace) where
