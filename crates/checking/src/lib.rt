@@ -29,7 +29,7 @@ const LOWER_NOT_ENABLED: u8 = 25;
 const HIGHER_NOT_ENABLED: u8 = 26;
 
 // The answer to question 5: yes, or no with the number of the first fault.
-#[derive(Drop)]
+#[derive(Clone, Copy)]
 pub enum Check {
     Refused(Refusal),
     Yes,

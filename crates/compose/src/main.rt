@@ -17,7 +17,7 @@ use writing::Written;
 const INPUT_BYTES: usize = TEXT_BYTES + 1;
 
 // What a text makes: the number of its first bad line and why it is bad; the refusal of its recording, and the line of the event that it speaks of, or 0; or how many bytes its recording has.
-#[derive(Drop)]
+#[derive(Clone, Copy)]
 pub enum Composed {
     BadLine(usize, Reason),
     Refused(Refusal, usize),

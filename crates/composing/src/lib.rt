@@ -14,7 +14,7 @@ use wording::{COMMENT, Line, NOTE_BYTES, Reason};
 pub const TEXT_BYTES: usize = 8 * Recording::MAX_BYTES;
 
 // What a text is: the number of its first bad line and why it is bad, or how many note lines, bytes of preamble and events it has.
-#[derive(Drop)]
+#[derive(Clone, Copy)]
 pub enum Text {
     Bad(usize, Reason),
     Good {
@@ -25,7 +25,7 @@ pub enum Text {
 }
 
 // The note lines at the front of a text: how many they are, the bytes of the preamble, and where the first other line begins.
-#[derive(Drop)]
+#[derive(Clone, Copy)]
 pub struct Notes {
     pub lines: usize,
     pub bytes: usize,
@@ -33,7 +33,7 @@ pub struct Notes {
 }
 
 // How many event lines there are, before another line, with where that begins, or the end.
-#[derive(Drop)]
+#[derive(Clone, Copy)]
 pub enum Events {
     Stopped(usize, usize),
     All(usize),

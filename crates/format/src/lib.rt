@@ -11,7 +11,7 @@ ghost use Rattle.format.specs.Readable.{is_readable_byte, is_readable};
 use limits::{Event, Recording, Refusal, Thread};
 
 // A byte of a preamble.
-#[derive(Drop)]
+#[derive(Clone, Copy)]
 pub struct NoteByte {
     pub value: u8,
 }
@@ -54,7 +54,7 @@ pub fn readable(s: &[u8]) -> bool
 }
 
 // What reading a file gives.
-#[derive(Drop)]
+#[derive(Clone, Copy)]
 pub enum File {
     Refused(Refusal),
     Good(Recording),

@@ -15,7 +15,7 @@ use format::File;
 use limits::{Event, Locks, Recording, Refusal};
 
 // What the events so far say of the threads: which have an event, which are forked, which are joined. Each is a set as in `bits`.
-#[derive(Drop)]
+#[derive(Clone, Copy)]
 pub struct Threads {
     pub begun: u16,
     pub forked: u16,
@@ -23,7 +23,7 @@ pub struct Threads {
 }
 
 // What an event does: nothing to a lock, or its lock now has this holder at this depth, or it is refused.
-#[derive(Drop)]
+#[derive(Clone, Copy)]
 pub enum Effect {
     Nothing,
     Hold(u8, u16),

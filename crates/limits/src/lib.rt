@@ -7,7 +7,7 @@ ghost use Rattle.limits.specs.Limits.{is_file_size, is_area_size, no_locks};
 ghost use Rattle.limits.specs.Refusals.{number_of, event_of};
 
 // A thread, by its number.
-#[derive(Drop)]
+#[derive(Clone, Copy)]
 pub struct Thread {
     pub number: u8,
 }
@@ -27,7 +27,7 @@ impl Thread {
 }
 
 // An event: its thread, its kind, and its object: the cell of a read or write, the lock of an acquire or release, or the thread that is forked or joined.
-#[derive(Drop)]
+#[derive(Clone, Copy)]
 pub struct Event {
     pub thread: Thread,
     pub kind: u8,
@@ -104,7 +104,7 @@ impl Locks {
 }
 
 // A recording, by where its events begin in its file.
-#[derive(Drop)]
+#[derive(Clone, Copy)]
 pub struct Recording {
     pub start: usize,
 }
@@ -155,7 +155,7 @@ impl Recording {
 }
 
 // Why a file or a question is refused; a case has the number of the event that it speaks of. `number_of` gives each its number in the paper.
-#[derive(Drop)]
+#[derive(Clone, Copy)]
 pub enum Refusal {
     FileSize,
     Mark,
@@ -181,7 +181,7 @@ pub enum Refusal {
 }
 
 // The event number that goes with a refusal, where one does.
-#[derive(Drop)]
+#[derive(Clone, Copy)]
 pub enum EventNumber {
     Absent,
     At(u16),

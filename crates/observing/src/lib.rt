@@ -10,7 +10,7 @@ ghost use Rattle.observing.specs.Entries.{answer_of, entry_at, observations_in};
 use limits::{Event, Refusal};
 
 // The answer to question 2: the number of the write that the event sees, the start, or that it is not a read.
-#[derive(Drop)]
+#[derive(Clone, Copy)]
 pub enum Observed {
     Refused(Refusal),
     Write(u16),
@@ -19,7 +19,7 @@ pub enum Observed {
 }
 
 // The answer for all events at once: how many events have their entry in the lent list.
-#[derive(Drop)]
+#[derive(Clone, Copy)]
 pub enum Observations {
     Refused(Refusal),
     Given(u16),

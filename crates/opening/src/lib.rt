@@ -17,7 +17,7 @@ use format::File;
 use limits::{Event, Refusal, Thread};
 
 // A refused file, or how many words its table has.
-#[derive(Drop)]
+#[derive(Clone, Copy)]
 pub enum Opened {
     Refused(Refusal),
     Words(usize),

@@ -17,7 +17,7 @@ pub use verdicts::{Finding, Next};
 pub use writing::{Written, write_file};
 
 // The answer to question 1.
-#[derive(Drop)]
+#[derive(Clone, Copy)]
 pub enum Judgement {
     Refused(Refusal),
     Good { events: u16, threads: u32 },
@@ -101,7 +101,7 @@ fn front<'a>(s: &'a [u8], m: usize) -> &'a [u8]
 }
 
 // Where the note of question 6 stands: it is the first so many bytes of the file, none for a refused one; or the operator's own.
-#[derive(Drop)]
+#[derive(Clone, Copy)]
 pub enum Noted {
     InFile(usize),
     Operators,

@@ -15,14 +15,14 @@ ghost use Rattle.races.specs.Next.{Hands, HandsWith, witness_of};
 use limits::{Recording, Thread};
 
 // The witness of a pair: none, or how long it is.
-#[derive(Drop)]
+#[derive(Clone, Copy)]
 pub enum Witnessed {
     Absent,
     Length(u16),
 }
 
 // The next race, with the length of its witness.
-#[derive(Drop)]
+#[derive(Clone, Copy)]
 pub enum Handed {
     NoMore,
     Race {

@@ -20,7 +20,7 @@ const MAX_RACES: u32 = (Recording::MAX_EVENTS * Recording::MAX_EVENTS) as u32;
 
 // A position in the report of a good file: what comes next, 0 for the first line and 1 for a race's or the last; the two numbers after which
 // the next race comes, and how many races stand before it.
-#[derive(Drop)]
+#[derive(Clone, Copy)]
 pub struct Position {
     pub next: u32,
     pub lower: u16,
@@ -43,7 +43,7 @@ impl Position {
 }
 
 // After some lines: the bytes in use, and the position to go on from, or that the report has ended.
-#[derive(Drop)]
+#[derive(Clone, Copy)]
 pub enum Progress {
     Ended(usize),
     More(usize, Position),

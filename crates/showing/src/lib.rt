@@ -14,7 +14,7 @@ use format::{File, NoteByte};
 use limits::{Event, Recording, Refusal};
 
 // How many bytes the text has, or why there is none.
-#[derive(Drop)]
+#[derive(Clone, Copy)]
 pub enum Shown {
     Refused(Refusal),
     Text(usize),

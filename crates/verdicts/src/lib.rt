@@ -13,7 +13,7 @@ use limits::{Recording, Refusal};
 use races::{Handed, Witnessed};
 
 // The answer to question 3: reported, with the length of the witness, or not.
-#[derive(Drop)]
+#[derive(Clone, Copy)]
 pub enum Finding {
     Refused(Refusal),
     Reported { length: u16 },
@@ -21,7 +21,7 @@ pub enum Finding {
 }
 
 // The answer to question 4: a reported pair, or that there is none.
-#[derive(Drop)]
+#[derive(Clone, Copy)]
 pub enum Next {
     Refused(Refusal),
     Race { lower: u16, higher: u16 },

@@ -15,7 +15,7 @@ pub const NOTE_BYTES: usize = 5;
 pub const COMMENT: u8 = b'#';
 
 // What a line is. A note's text is the line without its first NOTE_BYTES bytes.
-#[derive(Drop)]
+#[derive(Clone, Copy)]
 pub enum Line {
     Bad,
     Note,
@@ -23,7 +23,7 @@ pub enum Line {
 }
 
 // Why a line is bad: the reasons, in the order in which they are looked for.
-#[derive(Drop)]
+#[derive(Clone, Copy)]
 pub enum Reason {
     Empty,
     CarriageReturn,
@@ -42,7 +42,7 @@ pub enum Reason {
 }
 
 // What a word says as a number.
-#[derive(Drop)]
+#[derive(Clone, Copy)]
 pub enum Number {
     Absent,
     Value(u16),

@@ -80,7 +80,7 @@ pub fn put_file(
 }
 
 // How many bytes were written, or why none were.
-#[derive(Drop)]
+#[derive(Clone, Copy)]
 pub enum Written {
     Refused(Refusal),
     Bytes(usize),

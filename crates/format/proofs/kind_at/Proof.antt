@@ -1,9 +1,0 @@
-use native.Mathlib.Omega.{arith}
-use Rattle.format.proofs.EventLaws.{bytes_there, kind_is}
-use borrow.Author.Rules.{rules}
-use Rattle.format.proofs.kind_at.Statement.{statement}
-use Rattle.format.proofs.kind_at.Tie as tie
-
-pub kind-at-spec : {M : Type 1} → statement M
-kind-at-spec =
-    tie.close (tie.spec (λ c. search rules) (λ c. omega (arith, bytes_there _ _ c.requires)) (λ c. omega (arith, bytes_there _ _ c.requires)) (λ c. omega (arith, bytes_there _ _ c.before.requires)) (λ c. search (kind_is, rules)))

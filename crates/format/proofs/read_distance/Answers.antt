@@ -1,0 +1,18 @@
+use Rattle.std.proofs.Common.{rules}
+use Rattle.format.proofs.ReadLaws.{distance_beyond, distance-other, preamble-count, preamble_wrong, good}
+use Rattle.format.proofs.read_distance.Goals as goal
+
+pub returns-then-len-distance : goal.returns-then-len-distance
+returns-then-len-distance c = search (distance_beyond, rules)
+
+pub returns-then-distance-events : goal.returns-then-distance-events
+returns-then-distance-events c = search (distance-other, rules)
+
+pub slice_bounds-readable-end : goal.slice_bounds-readable-end
+slice_bounds-readable-end c = search (preamble-count, rules)
+
+pub returns-then-not-readable : goal.returns-then-not-readable
+returns-then-not-readable c = search (preamble_wrong, rules)
+
+pub returns : goal.returns
+returns c = search (good, rules)

@@ -1,0 +1,9 @@
+use Rattle.table.specs.Table.{trace}
+use Rattle.table.proofs.ThreadLaws.{Seen}
+use Rattle.table.proofs.threads.Given as goal
+
+abbrev pub invariant-loop-k : goal.invariant-loop-k
+invariant-loop-k l = Seen (trace l.table) l.k l.seen
+
+abbrev pub decreases-loop-k : goal.decreases-loop-k
+decreases-loop-k l = l.k
