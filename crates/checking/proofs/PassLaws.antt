@@ -265,7 +265,7 @@ module _ (t : Trace) (k : ℕ) (last writes locks : List ℕ) (c : ℕ) (ec : c 
             (λ q.
             let here = after h l s r ∙ rw (last_is ∙ ne_eqb e k z) in
             let there = ap (λ (v : ℕ). holder t v h) ex ∙ release_by_holder t g.well_formed h l k s.enabled.next r in
-            rw (eqb-true y x q) (here ∙ sym there))
+            ap (λ (v : ℕ). holder t v (k ∷ h)) (eqb-true y x q) ∙ here ∙ sym there ∙ ap (λ (v : ℕ). holder t v h) (sym (eqb-true y x q)))
             (λ q. let ne : y ≢ x = eqb-false _ _ q in rw (other_object acquire y ne, other_object release y ne)))
 
         pub pass_other : (e ≡ k → ⊥) → KnowsMore t k last writes locks (set last c k) writes locks

@@ -64,6 +64,7 @@ whole : (s : List ℕ) → ¬ Memᴰ 32 s → first_at 32 s ≡ length s
 whole s n = first_absent 32 s (λ b m e. n (rw e at m))
 
 in_has : (b : ℕ) (s : List ℕ) → Memᴰ b s → first_at b s < length s
+in_has b [] m = elim m [ ]
 in_has b (c ∷ s) (Memᴰ.head e) = rw (eq-eqb c b (sym e)) (omega arith)
 in_has b (c ∷ s) (Memᴰ.tail m) = let h = in_has b s m in by_cases (eqb c b) (λ e. rw e (omega arith)) (λ e. rw e (omega arith))
 

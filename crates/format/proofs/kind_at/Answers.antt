@@ -10,7 +10,7 @@ pub overflow_add-result : goal.overflow_add-result
 overflow_add-result c = omega (arith, bytes_there _ _ c.requires)
 
 pub bounds-ev-k : goal.bounds-ev-k
-bounds-ev-k c = omega (arith, bytes_there _ _ c.before.requires)
+bounds-ev-k c = omega (arith, bytes_there _ _ c.requires)
 
 pub returns : goal.returns
 returns c = search (kind_is, rules)

@@ -7,7 +7,7 @@ pub overflow_mul-result : goal.overflow_mul-result
 overflow_mul-result c = omega (arith, bytes_there _ _ c.requires)
 
 pub bounds-ev-k : goal.bounds-ev-k
-bounds-ev-k c = omega (arith, bytes_there _ _ c.before.requires)
+bounds-ev-k c = omega (arith, bytes_there _ _ c.requires)
 
 pub returns : goal.returns
 returns c = search (thread_is, rules)

@@ -1,0 +1,6 @@
+use Rattle.std.proofs.Common.{rules}
+use Rattle.cone.proofs.BarLaws.{has_root_lem}
+use Rattle.cone.proofs.has_root.Goals as goal
+
+pub returns : goal.returns
+returns c = search (has_root_lem, rules)

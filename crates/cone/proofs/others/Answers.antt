@@ -1,0 +1,12 @@
+use Rattle.std.proofs.Common.{rules}
+use Rattle.cone.proofs.SplitLaws.{others_start, others_valid, others_end}
+use Rattle.cone.proofs.others.Goals as goal
+
+pub loop-k-init : goal.loop-k-init
+loop-k-init c = search (others_start, rules)
+
+pub put-r-requires : goal.put-r-requires
+put-r-requires c = search (others_valid, rules)
+
+pub returns : goal.returns
+returns c = search (others_end, rules)

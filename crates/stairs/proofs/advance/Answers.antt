@@ -1,0 +1,16 @@
+use Rattle.std.proofs.Common.{rules}
+use Prim.Native.Nat.{◌-◌}
+use Rattle.stairs.proofs.SlotLaws.{advance_end, advance_stop, advance_valid, advance_room, advance_more}
+use Rattle.stairs.proofs.advance.Goals as goal
+
+pub returns-then-wide-v : goal.returns-then-wide-v
+returns-then-wide-v c = search (advance_stop, rules)
+
+pub note-requires : goal.note-requires
+note-requires c = search (advance_valid, advance_room, rules)
+
+pub loop-i-preserved : goal.loop-i-preserved
+loop-i-preserved c = search (advance_more, rules)
+
+pub returns : goal.returns
+returns c = search (advance_end, rules)

@@ -1,0 +1,10 @@
+use Rattle.std.proofs.Common.{rules}
+use native.Mathlib.Omega.{arith}
+use Rattle.stairs.proofs.SlotLaws.{slot_lock, slot_cell}
+use Rattle.stairs.proofs.slot.Goals as goal
+
+pub returns-then-kind_at-eq-ACQUIRE : goal.returns-then-kind_at-eq-ACQUIRE
+returns-then-kind_at-eq-ACQUIRE c = (search (slot_lock, rules), omega arith)
+
+pub returns : goal.returns
+returns c = (search (slot_cell, rules), omega arith)

@@ -1,0 +1,19 @@
+use Rattle.std.proofs.Common.{rules}
+use Prim.Native.Nat.{◌-◌}
+use native.Mathlib.Omega.{arith}
+use Rattle.stairs.proofs.SolveLaws.{solving_start, solving_rest, solving_more, solving_less}
+use Rattle.stairs.proofs.solve.Goals as goal
+
+pub loop-init : goal.loop-init
+loop-init c = search (solving_start, rules)
+
+pub loop-smaller : goal.loop-smaller
+loop-smaller c =
+    let n = c.before in
+    let q = n.before.before in solving_less q.before.before.loop.invariant q.pass.ensures c.loop-test.true (λ k. omega (arith, n.slice-known2.given k))
+
+pub loop-preserved : goal.loop-preserved
+loop-preserved c = search solving_more
+
+pub returns : goal.returns
+returns c = search solving_rest
