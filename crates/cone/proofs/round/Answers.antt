@@ -1,5 +1,4 @@
 use Rattle.std.proofs.Common.{rules}
-use Prim.Native.Nat.{◌-◌}
 use Rattle.cone.proofs.RaiseLaws.{stops}
 use Rattle.cone.proofs.RoundLaws.{round_start, round_going, round_more, round_end}
 use Rattle.cone.proofs.round.Goals as goal

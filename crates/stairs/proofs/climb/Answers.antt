@@ -26,10 +26,10 @@ pub loop-out-smaller-then-moved_next : goal.loop-out-smaller-then-moved_next
 loop-out-smaller-then-moved_next c = let h = next_in_lem _ _ _ _ _ (sym c.moved_next.ensures ∙ c.if-moved_next.true) in search rules
 
 pub loop-out-preserved-then-moved_next : goal.loop-out-preserved-then-moved_next
-loop-out-preserved-then-moved_next c = let n = c.before.before in merging_moved n.before.loop.invariant n.moved-next.ensures c.if-moved_next.true
+loop-out-preserved-then-moved_next c = merging_moved c.loop-out.invariant c.moved_next.ensures c.if-moved_next.true
 
 pub returns-then-j-q : goal.returns-then-j-q
 returns-then-j-q c = search (merging_end, rules)
 
 pub loop-out-preserved : goal.loop-out-preserved
-loop-out-preserved c = let n = c.before.before.before in merging_others n.before.loop.invariant n.moved-next.ensures c.if-moved_next.false (search rules)
+loop-out-preserved c = merging_others c.loop-out.invariant c.moved_next.ensures c.if-moved_next.false (search rules)

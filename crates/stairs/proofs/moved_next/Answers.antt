@@ -10,7 +10,7 @@ pub returns-then-q-j : goal.returns-then-q-j
 returns-then-q-j c = search (next-left, rules)
 
 pub bounds-need-wide : goal.bounds-need-wide
-bounds-need-wide c = let w = c.before in let h = w.before.before.before in omega (arith, h.before.before.before.before.before.requires h.if2.false)
+bounds-need-wide c = omega (arith, c.requires c.if-q-j.false)
 
 pub returns : goal.returns
 returns c = search (next_both, rules)

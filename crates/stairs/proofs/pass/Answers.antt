@@ -19,39 +19,23 @@ begun-o-requires c = search (turn_valid, rules)
 pub asked-most-requires : goal.asked-most-requires
 asked-most-requires c = (search rules, search turn_begun)
 
--- a: after `asked`; b: after `begun`; q: after `meet`; l: in the loop
 pub loop-j-preserved-then-n-most : goal.loop-j-preserved-then-n-most
 loop-j-preserved-then-n-most c =
-    let a = c.before in
-    let b = a.before.before in
-    let q = b.before.before.before.before.before in
-    let l = q.before.before.before.before in
-    passing_again l.before.before.before.before.before.before.before.requires l.before.loop.invariant l.loop-test.true _
-    q.before.before.wide.ensures.0 q.meet.ensures b.begun.ensures (search rules) b.before.advance.ensures a.asked.ensures c.if-n-most.true (search rules)
+    passing_again c.requires c.loop-j.invariant c.loop-j-test.true _
+    c.wide-k.ensures.0 c.meet-n.ensures c.begun-o.ensures (search rules) c.advance-i.ensures c.asked-most.ensures c.if-n-most.true (search rules)
 
 pub pull-raised-requires : goal.pull-raised-requires
-pull-raised-requires c κs =
-    let b = c.before.before.before.before in
-    let q = b.before.before.before.before.before in
-    let l = q.before.before.before.before in
-    turn_pull l.before.before.before.before.before.before.before.requires l.before.loop.invariant l.loop-test.true _
-    q.before.before.wide.ensures.0 q.meet.ensures b.begun.ensures
+pull-raised-requires c =
+    turn_pull c.requires c.loop-j.invariant c.loop-j-test.true _
+    c.wide-k.ensures.0 c.meet-n.ensures c.begun-o.ensures
 
 pub overflow_add-j : goal.overflow_add-j
-overflow_add-j c =
-    let l = c.before.before.before.before.before.before.before.before.before.before.before.before.before.before.before.before in
-    let h = l.loop-test.true in
-    let n = l.before.before.before.before.shared-slice-known3.given in omega arith
+overflow_add-j c = search rules
 
 pub loop-j-preserved : goal.loop-j-preserved
 loop-j-preserved c =
-    let u = c.before.before in
-    let a = u.before.before.before in
-    let b = a.before.before in
-    let q = b.before.before.before.before.before in
-    let l = q.before.before.before.before in
-    passing_turn l.before.before.before.before.before.before.before.requires l.before.loop.invariant l.loop-test.true _
-    q.before.before.wide.ensures.0 q.meet.ensures b.begun.ensures (search rules) b.before.advance.ensures a.asked.ensures u.pull.ensures
+    passing_turn c.requires c.loop-j.invariant c.loop-j-test.true _
+    c.wide-k.ensures.0 c.meet-n.ensures c.begun-o.ensures (search rules) c.advance-i.ensures c.asked-most.ensures c.pull-raised.ensures
 
 pub returns : goal.returns
 returns c = search (passed, rules)

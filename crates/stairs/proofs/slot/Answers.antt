@@ -4,7 +4,7 @@ use Rattle.stairs.proofs.SlotLaws.{slot_lock, slot_cell}
 use Rattle.stairs.proofs.slot.Goals as goal
 
 pub returns-then-kind_at-eq-ACQUIRE : goal.returns-then-kind_at-eq-ACQUIRE
-returns-then-kind_at-eq-ACQUIRE c = (search (slot_lock, rules), omega arith)
+returns-then-kind_at-eq-ACQUIRE c = record { value = search (slot_lock, rules); upper_bound = omega arith }
 
 pub returns : goal.returns
-returns c = (search (slot_cell, rules), omega arith)
+returns c = record { value = search (slot_cell, rules); upper_bound = omega arith }

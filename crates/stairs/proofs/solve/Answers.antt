@@ -8,9 +8,7 @@ pub loop-init : goal.loop-init
 loop-init c = search (solving_start, rules)
 
 pub loop-smaller : goal.loop-smaller
-loop-smaller c =
-    let n = c.before in
-    let q = n.before.before in solving_less q.before.before.loop.invariant q.pass.ensures c.loop-test.true (λ k. omega (arith, n.slice-known2.given k))
+loop-smaller c = solving_less c.loop.invariant c.pass.ensures c.loop-test.true (search rules)
 
 pub loop-preserved : goal.loop-preserved
 loop-preserved c = search solving_more
