@@ -1,5 +1,4 @@
 use Rattle.std.proofs.Common.{rules}
-use Prim.Native.Nat.{◌-◌}
 use Rattle.stairs.proofs.SlotLaws.{advance_end, advance_stop, advance_valid, advance_room, advance_more}
 use Rattle.stairs.proofs.advance.Goals as goal
 

@@ -1,5 +1,4 @@
 use Rattle.std.proofs.Common.{rules}
-use Prim.Native.Nat.{◌-◌}
 use mathlib.Core.Path.{sym, ◌∙◌}
 use Rattle.stairs.proofs.ClimbLaws.{next_in_lem, merging_start, merging_stair, merging_moved, merging_others, merging_end}
 use Rattle.stairs.proofs.climb.Goals as goal

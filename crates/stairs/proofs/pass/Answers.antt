@@ -22,12 +22,12 @@ asked-most-requires c = (search rules, search turn_begun)
 pub loop-j-preserved-then-n-most : goal.loop-j-preserved-then-n-most
 loop-j-preserved-then-n-most c =
     passing_again c.requires c.loop-j.invariant c.loop-j-test.true _
-    c.wide-k.ensures.0 c.meet-n.ensures c.begun-o.ensures (search rules) c.advance-i.ensures c.asked-most.ensures c.if-n-most.true (search rules)
+    c.wide-k.ensures.value c.meet-n.ensures c.begun-o.ensures (search rules) c.advance-i.ensures c.asked-most.ensures c.if-n-most.true (search rules)
 
 pub pull-raised-requires : goal.pull-raised-requires
 pull-raised-requires c =
     turn_pull c.requires c.loop-j.invariant c.loop-j-test.true _
-    c.wide-k.ensures.0 c.meet-n.ensures c.begun-o.ensures
+    c.wide-k.ensures.value c.meet-n.ensures c.begun-o.ensures
 
 pub overflow_add-j : goal.overflow_add-j
 overflow_add-j c = search rules
@@ -35,7 +35,7 @@ overflow_add-j c = search rules
 pub loop-j-preserved : goal.loop-j-preserved
 loop-j-preserved c =
     passing_turn c.requires c.loop-j.invariant c.loop-j-test.true _
-    c.wide-k.ensures.0 c.meet-n.ensures c.begun-o.ensures (search rules) c.advance-i.ensures c.asked-most.ensures c.pull-raised.ensures
+    c.wide-k.ensures.value c.meet-n.ensures c.begun-o.ensures (search rules) c.advance-i.ensures c.asked-most.ensures c.pull-raised.ensures
 
 pub returns : goal.returns
 returns c = search (passed, rules)
