@@ -1,6 +1,4 @@
 use Rattle.std.proofs.Common.{rules}
-use Prim.Native.Nat.{◌-◌}
-use native.Mathlib.Omega.{arith}
 use Rattle.stairs.proofs.PassLaws.{passing_start, ready_moved, turn_valid, turn_place, turn_upto, turn_begun, turn_pull, passing_again, passing_turn, passed}
 use Rattle.stairs.proofs.pass.Goals as goal
 

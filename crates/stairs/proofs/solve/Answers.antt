@@ -1,6 +1,4 @@
 use Rattle.std.proofs.Common.{rules}
-use Prim.Native.Nat.{◌-◌}
-use native.Mathlib.Omega.{arith}
 use Rattle.stairs.proofs.SolveLaws.{solving_start, solving_rest, solving_more, solving_less}
 use Rattle.stairs.proofs.solve.Goals as goal
 
