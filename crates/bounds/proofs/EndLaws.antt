@@ -2,7 +2,7 @@
 use Prim.Native.Nat.{ℕ, ◌+◌, ◌≤◌, ◌<◌}
 use native.Mathlib.Omega.{arith}
 use native.Mathlib.Numerals.{add-one}
-use mathlib.Core.Path.{◌≡◌, refl, sym, ◌∙◌, ap}
+use mathlib.Core.Path.{◌≡◌, refl, sym, ◌∙◌, ap, subst}
 use mathlib.Core.Logic.{◌≢◌}
 use mathlib.Core.Bool.{Bool, true, false, cond, not}
 use mathlib.Core.List.Memᴰ
@@ -124,7 +124,10 @@ module _ {s : List ℕ} {m : ℕ} {P Q ends₀ : List ℕ} {i : ℕ} {ends : Lis
           given = record { links = g.links; parts = g.parts; room = omega arith };
           is = λ v n.
               rw (passed-suc P i h) (in_cons (rw (passed-suc P i h) at n)
-              (λ a. let d : v ≡ e = a in rw d (own_entry))
+              (λ a.
+              let d : v ≡ e = a in
+              let F : ℕ → Type 0 = λ u. at (with_end (trace s) m e ends) u ≡ cond (eqb (began (trace s) e) u) e (nearest (λ k. eqb (began (trace s) k) u) (passed P i)) in
+              subst F (sym d) own_entry)
               (λ a. let lt = passed_below P i g.parts.moved_up h v a in
               let ne : v ≢ e = λ b. let u : ⊥ = omega arith in u in
               entry v (passed_in P i v a) ∙ rw (ne_eqb v e ne, p.is v a)));

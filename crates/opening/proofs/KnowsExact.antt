@@ -27,5 +27,5 @@ module _ {t : Trace} {k : ℕ} {list : List ℕ} (p : LastWrites t k list) (x : 
   pub knows_write : (w : ℕ) → w ≢ 0 → (get_or list x 0 ≡ w) ↔ LastBefore t x k w
   knows_write w ne = (λ e. (last_write_exactly t x k w ne).0 (sym (p.is x l) ∙ e), λ d. p.is x l ∙ (last_write_exactly t x k w ne).1 d)
 
-  pub knows_none : (get_or list x 0 ≡ 0) ↔ Unwritten t x 0 k
-  knows_none = (λ e. (unwritten_exactly t x k).0 (sym (p.is x l) ∙ e), λ u. p.is x l ∙ (unwritten_exactly t x k).1 u)
+pub knows_none : (t : Trace) (k : ℕ) {list : List ℕ} → LastWrites t k list → (x : ℕ) → x ≤ max_object → (get_or list x 0 ≡ 0) ↔ Unwritten t x 0 k
+knows_none t k p x l = (λ e. (unwritten_exactly t x k).0 (sym (p.is x l) ∙ e), λ u. p.is x l ∙ (unwritten_exactly t x k).1 u)
