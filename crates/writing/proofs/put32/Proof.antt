@@ -1,9 +1,0 @@
-use Rattle.writing.proofs.PutLaws.{halves_put}
-use borrow.Author.Rules.{rules}
-use Rattle.writing.proofs.put32.Statement.{statement}
-use Rattle.writing.proofs.put32.Tie as tie
-
-pub put32-spec : {M : Type 1} → statement M
-put32-spec =
-    tie.close
-    (tie.spec (λ c. search rules) (λ c κs. search rules) (λ c. search rules) (λ c κs. search rules) (λ c. search rules) (λ c. search (halves_put, rules)))
