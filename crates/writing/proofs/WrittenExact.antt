@@ -1,7 +1,7 @@
 -- What reading says of a written file, and what the writer answers, each exactly in its case.
 use Prim.Native.Nat.{ℕ, ◌≤◌, ◌<◌}
 use native.Mathlib.Omega.{arith}
-use mathlib.Core.Path.{◌≡◌, refl}
+use mathlib.Core.Path.{◌≡◌, refl, subst}
 use mathlib.Core.Logic.Iff
 use mathlib.Core.Logic.{inl, inr, ⊎_elim, ◌↔◌}
 use mathlib.Core.Option.{Option, none, some}
@@ -12,13 +12,15 @@ use lib.Dec.{ltb}
 use borrow.Author.Tests.{ltb-true, lt-ltb}
 use Rattle.model.specs.Trace.{Trace}
 use Rattle.model.specs.Good.{max_events}
+use Rattle.model.specs.Refusals.{trace_rows}
 use Rattle.model.specs.Rows.{row, nothing, Answer, First, first, either}
 use Rattle.model.proofs.RowsExact.{not_exactly, tests_first, append-first}
 use Rattle.limits.specs.Refusals.{paper}
 use Rattle.limits.proofs.PaperLaws.{refused_exactly, asked_exactly}
 use Rattle.limits.specs.declared.Refusal.TheVariants.{ListShort}
 use Rattle.limits.specs.declared.Refusal.{Refusal}
-use Rattle.format.specs.Layout.{count, Sized}
+use Rattle.format.specs.Layout.{count, preamble, Sized}
+use Rattle.format.specs.Readable.{Readable}
 use Rattle.judging.specs.Judged.{file_rows, file_refusal, rows_of_file}
 use Rattle.judging.proofs.JudgedExact.{file_first, file_exactly}
 use Rattle.judging.proofs.FileLaws.{question_first}
@@ -50,7 +52,10 @@ module _ (z : ℕ) (h : 4 ≤ z) (p : List ℕ) (t : Trace) where
   by_rows o f = ⊎_elim (λ x. inl ((λ n. x.0 (sized_of n)), x.1)) (λ x. inr ((λ n. x.0 (λ s. n (fits_of s))), marked x.1)) f
     where
       readable : First (drop 4 (file_rows z (written z p t))) o → First (drop 2 (write_rows z p t)) o
-      readable f = rw ((reads_back z h p t).same_preamble, (reads_back z h p t).same_events) at f
+      readable f =
+          let F : List ℕ → Trace → Type 0 = λ q u. First (row 13 nothing (¬ Readable q) ∷ trace_rows u) o in
+          let b = reads_back z h p t in
+          subst (λ (q : List ℕ). F q t) b.same_preamble (subst (λ (u : Trace). F (preamble (written z p t)) u) b.same_events f)
 
       pointed : First (drop 3 (file_rows z (written z p t))) o → First (drop 2 (write_rows z p t)) o
       pointed f = ⊎_elim (λ x. absurd (x.0 (pointed_back z h p t))) (λ x. readable x.1) f

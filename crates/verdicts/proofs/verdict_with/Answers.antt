@@ -1,0 +1,19 @@
+use Rattle.std.proofs.Common.{rules}
+use Rattle.model.proofs.Lists.{front_length}
+use Rattle.verdicts.proofs.VerdictLaws.{area_long, area_refused, pair_decidable, pair_decided}
+use Rattle.verdicts.proofs.verdict_with.Goals as goal
+
+pub returns-then-not-area_suffices : goal.returns-then-not-area_suffices
+returns-then-not-area_suffices c = search (area_refused, rules)
+
+pub slice_bounds-decide-end : goal.slice_bounds-decide-end
+slice_bounds-decide-end c = search (area_long, rules)
+
+pub slice_bounds-decide-end-2 : goal.slice_bounds-decide-end-2
+slice_bounds-decide-end-2 c = search (front_length, area_long, rules)
+
+pub decide-requires : goal.decide-requires
+decide-requires c = search (pair_decidable, rules)
+
+pub returns : goal.returns
+returns c = search (pair_decided, rules)
