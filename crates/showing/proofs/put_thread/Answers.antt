@@ -1,0 +1,9 @@
+use Rattle.std.proofs.Common.{rules}
+use Rattle.showing.proofs.PutLaws.{thread_room, thread_put}
+use Rattle.showing.proofs.put_thread.Goals as goal
+
+pub put_decimal-requires : goal.put_decimal-requires
+put_decimal-requires c = search (thread_room, rules)
+
+pub returns : goal.returns
+returns c = search (thread_put, rules)
