@@ -11,7 +11,7 @@ pub slice_bounds-find_next-end : goal.slice_bounds-find_next-end
 slice_bounds-find_next-end c = search (area_long, rules)
 
 pub slice_bounds-find_next-end-2 : goal.slice_bounds-find_next-end-2
-slice_bounds-find_next-end-2 c = search (front_length, area_long, rules)
+slice_bounds-find_next-end-2 c = front_length _ c.args.area.now (search (area_long, rules))
 
 pub find_next-requires : goal.find_next-requires
 find_next-requires c = search (next_searchable, rules)

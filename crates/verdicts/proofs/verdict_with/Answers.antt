@@ -10,7 +10,7 @@ pub slice_bounds-decide-end : goal.slice_bounds-decide-end
 slice_bounds-decide-end c = search (area_long, rules)
 
 pub slice_bounds-decide-end-2 : goal.slice_bounds-decide-end-2
-slice_bounds-decide-end-2 c = search (front_length, area_long, rules)
+slice_bounds-decide-end-2 c = front_length _ c.args.area.now (search (area_long, rules))
 
 pub decide-requires : goal.decide-requires
 decide-requires c = search (pair_decidable, rules)
