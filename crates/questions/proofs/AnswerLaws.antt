@@ -20,7 +20,7 @@ use Rattle.observing.specs.Entries.{observations_in}
 use Rattle.verdicts.specs.Verdict.{verdict_in}
 use Rattle.verdicts.specs.Next.{next_in}
 use Rattle.checking.specs.Checking.{check_in}
-use Rattle.questions.specs.Answers.{answerJudge, answerObserved}
+use Rattle.questions.specs.Answers.{answer_judge, answer_observed}
 use Rattle.questions.specs.Observations.{answer_observations}
 use Rattle.questions.specs.Verdicts.{answer_verdict, answer_next, answer_check}
 use Rattle.questions.specs.declared.Judgement.TheVariants.{Refused as Judged, Good as GoodWith}
@@ -37,12 +37,12 @@ use Rattle.checking.specs.declared.Check.TheVariants.{Refused as NotChecked}
 
 module _ (s : List ℕ) {area area' : List ℕ} {x : Opened} (o : Opens (refusal_of s) (events_of s) area area' x) where
   module _ (r : Refusal) (q : x ≡ NotOpened r) where
-    pub refused_judgement : Judged r ≡ answerJudge s
-    unfolding answerJudge
+    pub refused_judgement : Judged r ≡ answer_judge s
+    unfolding answer_judge
     refused_judgement = rw (refused_by o r q)
 
-    pub refused_observed : (k : ℕ) → NotAsked r ≡ answerObserved s k
-    unfolding answerObserved
+    pub refused_observed : (k : ℕ) → NotAsked r ≡ answer_observed s k
+    unfolding answer_observed
     refused_observed k = rw (refused_by o r q)
 
     pub refused_observations : (l : List ℕ) → (NotGiven r, l) ≡ answer_observations s l
@@ -66,12 +66,12 @@ module _ (s : List ℕ) {area area' : List ℕ} {x : Opened} (o : Opens (refusal
     pub number_fits : (k : ℕ) → k ≡ length (trace (take n area')) → Fits w16 k
     number_fits k e = let z = (opened_linked o n q).good.size in record { fits = omega arith }
 
-    pub good_judgement : (k m : ℕ) → k ≡ length (trace (take n area')) → m ≡ length (threads (trace (take n area'))) → GoodWith k m ≡ answerJudge s
-    unfolding answerJudge
+    pub good_judgement : (k m : ℕ) → k ≡ length (trace (take n area')) → m ≡ length (threads (trace (take n area'))) → GoodWith k m ≡ answer_judge s
+    unfolding answer_judge
     good_judgement k m ek em = rw (opened_clean o n q, ek, em, opened_trace o n q)
 
-    pub good-observed : (k : ℕ) (y : Observed) → y ≡ observed_in (trace (take n area')) k → y ≡ answerObserved s k
-    unfolding answerObserved
+    pub good-observed : (k : ℕ) (y : Observed) → y ≡ observed_in (trace (take n area')) k → y ≡ answer_observed s k
+    unfolding answer_observed
     good-observed k y c = rw (opened_clean o n q, ← opened_trace o n q) c
 
     pub good_observations : (l : List ℕ) (y : Observations × List ℕ) → y ≡ observations_in none (trace (take n area')) l → y ≡ answer_observations s l

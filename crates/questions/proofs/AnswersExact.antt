@@ -16,18 +16,18 @@ use Rattle.format.specs.Layout.{preamble}
 use Rattle.judging.specs.Judged.{events_of, refusal_of}
 use Rattle.judging.proofs.FileLaws.{file_asked}
 use Rattle.observing.proofs.ObservingExact.{observed_in_exactly}
-use Rattle.questions.specs.Answers.{Judges, answerJudge, Observes, answerObserved}
+use Rattle.questions.specs.Answers.{Judges, answer_judge, Observes, answer_observed}
 use Rattle.questions.specs.Note.{Slice, Part, front, NoteOf, own-note, lent_note, Notes, standing, noted_in, answer_noted, answer_note}
 use Rattle.questions.specs.declared.Judgement.{Judgement}
 use Rattle.questions.specs.declared.Noted.TheVariants.{InFile}
 use Rattle.observing.specs.declared.Observed.{Observed}
 
-pub judge_exactly : (s : List ℕ) (j : Judgement) → (answerJudge s ≡ j) ↔ Judges s j
-unfolding answerJudge
+pub judge_exactly : (s : List ℕ) (j : Judgement) → (answer_judge s ≡ j) ↔ Judges s j
+unfolding answer_judge
 judge_exactly s j = file_asked s (λ g x. Iff.rfl) j
 
-pub observed_exactly : (s : List ℕ) (k : ℕ) (o : Observed) → (answerObserved s k ≡ o) ↔ Observes s k o
-unfolding answerObserved
+pub observed_exactly : (s : List ℕ) (k : ℕ) (o : Observed) → (answer_observed s k ≡ o) ↔ Observes s k o
+unfolding answer_observed
 observed_exactly s k o = file_asked s (λ g. observed_in_exactly (events_of s) k) o
 
 -- ---- question 6

@@ -27,7 +27,7 @@ use Rattle.writing.proofs.WriteLaws.{refused_no_bytes}
 use Rattle.writing.proofs.WrittenExact.{write_exactly}
 use Rattle.writing.specs.declared.Written.{Written}
 use Rattle.writing.specs.declared.Written.TheVariants.{Bytes}
-use Rattle.questions.specs.Answers.{answerJudge}
+use Rattle.questions.specs.Answers.{answer_judge}
 use Rattle.questions.specs.RoundTrips.{AnswersFor, WhatIsWritten, WhatIsRead}
 
 -- ---- what is written
@@ -38,10 +38,10 @@ module _ (p : List ℕ) (t : Trace) (g : IsGoodFile (file_with p t)) where
   note_of_lem file operator e ne =
       let b : preamble file.now ≡ p = ap preamble e ∙ (reads_back event_bytes (omega arith) p t).same_preamble in
       (note_exactly file operator (own_note file)).1 (answers ((quiet_file file.now).1 (rw e g)) (own-note (λ f. ne (sym b ∙ f))))
-      ∙ ap (λ (l : List ℕ). record { begins = file.ptr; bytes = l }) b
+      ∙ ap (λ (l : List ℕ). record { begins = file.ref_ptr; bytes = l }) b
 
   answers_for : AnswersFor (file_with p t) p t
-  unfolding answerJudge
+  unfolding answer_judge
   answers_for = record {
     read = reads_back event_bytes (omega arith) p t;
     judged = rw ((meaning (file_with p t) none).1 g, (reads_back event_bytes (omega arith) p t).same_events);

@@ -13,16 +13,16 @@ use Rattle.observing.specs.declared.Observed.TheVariants.{Refused as ObservedRef
 -- ---- question 1
 
 -- good, with the number of events and how many different threads have one
-abbrev pub goodWith : Trace → Judgement
-goodWith t = Good (length t) (length (threads t))
+abbrev pub good_with : Trace → Judgement
+good_with t = Good (length t) (length (threads t))
 
 -- what each answer means
 abbrev pub Judges : List ℕ → Judgement → Type 0
-Judges s j = Asked (rows_of_file s) JudgedRefused (λ j. goodWith (events_of s) ≡ j) j
+Judges s j = Asked (rows_of_file s) JudgedRefused (λ j. good_with (events_of s) ≡ j) j
 
 -- computed
-unfoldable pub answerJudge : List ℕ → Judgement
-answerJudge s = settled JudgedRefused (goodWith (events_of s)) (refusal_of s)
+unfoldable pub answer_judge : List ℕ → Judgement
+answer_judge s = settled JudgedRefused (good_with (events_of s)) (refusal_of s)
 
 -- ---- question 2
 
@@ -31,5 +31,5 @@ abbrev pub Observes : List ℕ → ℕ → Observed → Type 0
 Observes s k o = Asked (rows_of_file s) ObservedRefused (ObservedOf (events_of s) k) o
 
 -- computed
-unfoldable pub answerObserved : List ℕ → ℕ → Observed
-answerObserved s k = settled ObservedRefused (observed_in (events_of s) k) (refusal_of s)
+unfoldable pub answer_observed : List ℕ → ℕ → Observed
+answer_observed s k = settled ObservedRefused (observed_in (events_of s) k) (refusal_of s)

@@ -8,7 +8,7 @@ use Rattle.observing.specs.Entries.{answer_of, ObservationsOf, observations_in}
 use Rattle.observing.specs.declared.Observations.{Observations}
 use Rattle.observing.specs.declared.Observations.TheVariants.{Refused, Given}
 use Rattle.observing.specs.declared.Observed.TheVariants.{NotARead}
-use Rattle.questions.specs.Answers.{answerObserved}
+use Rattle.questions.specs.Answers.{answer_observed}
 
 -- the rows after those of the file
 abbrev pub entry_rows : Trace → List ℕ → List Row
@@ -25,4 +25,4 @@ answer_observations s l = observations_in (refusal_of s) (events_of s) l
 -- its entries are question 2's answers one by one, and what has none is not a read
 abbrev pub OneByOne : List ℕ → Observations × List ℕ → Type 0
 OneByOne s (Refused r, l) = Unit {0}
-OneByOne s (Given n, l) = (k : ℕ) → answerObserved s k ≡ cond (leb k n) (answer_of (get_or l k 0)) NotARead
+OneByOne s (Given n, l) = (k : ℕ) → answer_observed s k ≡ cond (leb k n) (answer_of (get_or l k 0)) NotARead

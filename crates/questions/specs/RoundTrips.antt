@@ -11,14 +11,14 @@ use Rattle.writing.specs.RoundTrip.{ReadsAs, AllBytes}
 use Rattle.writing.specs.Writing.{answer_write}
 use Rattle.writing.specs.declared.Written.{Written}
 use Rattle.writing.specs.declared.Written.TheVariants.{Bytes}
-use Rattle.questions.specs.Answers.{answerJudge}
+use Rattle.questions.specs.Answers.{answer_judge}
 use Rattle.questions.specs.declared.Judgement.TheVariants.{Good}
 
 -- what the questions say of a file s that was written of a preamble p and a trace t
 pub record AnswersFor (s p : List ℕ) (t : Trace) : Type 0 where
   pub read : ReadsAs event_bytes s p t
   -- question 1: good, with as many events and threads
-  pub judged : answerJudge s ≡ Good (length t) (length (threads t))
+  pub judged : answer_judge s ≡ Good (length t) (length (threads t))
   -- question 6: the preamble or, where that is empty, the operator's own note
   pub noted : (file operator : Slice) → file.now ≡ s → p ≢ [] → answer_note file operator ≡ record { begins = file.ref_ptr; bytes = p }
   pub lent : (file operator : Slice) → file.now ≡ s → p ≡ [] → answer_note file operator ≡ whole operator

@@ -3,7 +3,7 @@
 #![tactic(auto)]
 
 ghost use Rattle.std.specs.Prelude.{◌≡◌, ◌≤◌, length};
-ghost use Rattle.questions.specs.Answers.{answerJudge, answerObserved};
+ghost use Rattle.questions.specs.Answers.{answer_judge, answer_observed};
 ghost use Rattle.questions.specs.Observations.{answer_observations};
 ghost use Rattle.questions.specs.Verdicts.{answer_verdict, answer_next, answer_check};
 ghost use Rattle.questions.specs.Note.{whole, front, answer_noted, answer_note};
@@ -25,7 +25,7 @@ pub enum Judgement {
 
 // Question 1: is the file good, with how many events and threads?
 pub fn judge(file: &[u8]) -> Judgement
-    ensures { result ≡ answerJudge file.now }
+    ensures { result ≡ answer_judge file.now }
 {
     let mut rows = [0u16; table::ROOM];
     match opening::table_of(file, &mut rows) {
@@ -39,7 +39,7 @@ pub fn judge(file: &[u8]) -> Judgement
 
 // Question 2: which write does event k see?
 pub fn observed_write(file: &[u8], k: u16) -> Observed
-    ensures { result ≡ answerObserved file.now k }
+    ensures { result ≡ answer_observed file.now k }
 {
     let mut rows = [0u16; table::ROOM];
     match opening::table_of(file, &mut rows) {

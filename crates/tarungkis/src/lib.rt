@@ -2,7 +2,7 @@
 #![tactic(auto)]
 
 ghost use Rattle.std.specs.Prelude.{◌≡◌};
-ghost use Rattle.questions.specs.Answers.{answerJudge, answerObserved};
+ghost use Rattle.questions.specs.Answers.{answer_judge, answer_observed};
 ghost use Rattle.questions.specs.Observations.{answer_observations};
 ghost use Rattle.questions.specs.Verdicts.{answer_verdict, answer_next, answer_check};
 ghost use Rattle.questions.specs.Note.{answer_noted};
@@ -14,7 +14,7 @@ ghost use Rattle.numbers.specs.Packed.{of_judgement, of_observed, of_observation
 // Question 1.
 #[unsafe(no_mangle)]
 pub extern "C" fn tarungkis_judge(file: &[u8]) -> u64
-    ensures { result ≡ packed (of_judgement (answerJudge file.now)) }
+    ensures { result ≡ packed (of_judgement (answer_judge file.now)) }
 {
     numbers::of_judgement(questions::judge(file))
 }
@@ -22,7 +22,7 @@ pub extern "C" fn tarungkis_judge(file: &[u8]) -> u64
 // Question 2.
 #[unsafe(no_mangle)]
 pub extern "C" fn tarungkis_observed_write(file: &[u8], k: u16) -> u64
-    ensures { result ≡ packed (of_observed (answerObserved file.now k)) }
+    ensures { result ≡ packed (of_observed (answer_observed file.now k)) }
 {
     numbers::of_observed(questions::observed_write(file, k))
 }

@@ -1,5 +1,4 @@
 use Rattle.std.proofs.Common.{rules}
-use Prim.Native.Nat.{◌-◌}
 use Rattle.showing.proofs.PutLaws.{events-first, event_good, line_room, events_on, events_over}
 use Rattle.showing.proofs.put_events.Goals as goal
 
