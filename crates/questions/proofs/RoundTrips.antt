@@ -1,16 +1,16 @@
 -- What is written is answered for as it was handed in, and what is read is written again.
-use Prim.Native.Nat.{ℕ, ◌≤◌}
+use Prim.Native.Nat.{ℕ, ◌≤◌, ◌<◌}
 use native.Mathlib.Omega.{arith}
-use mathlib.Core.Path.{◌≡◌, refl, sym, ◌∙◌, ap}
+use mathlib.Core.Path.{◌≡◌, refl, sym, ◌∙◌, ap, subst}
 use mathlib.Core.Logic.{◌≢◌}
 use mathlib.Core.Option.{none}
-use mathlib.Core.List.{List, []}
+use mathlib.Core.List.{List, [], ◌∷◌, ◌++◌}
 use lib.ListN.{length, take}
 use Rattle.model.specs.Trace.{Trace, thread_list, kind_list, object_list}
 use Rattle.model.specs.Lists.{in_front}
 use Rattle.model.proofs.Lists.{front_taken}
 use Rattle.limits.specs.Limits.{event_bytes, max_bytes}
-use Rattle.model.specs.Rows.{Quiet}
+use Rattle.model.specs.Rows.{Quiet, row, nothing}
 use Rattle.model.proofs.RowsExact.{quiet_both, both_quiet}
 use Rattle.limits.specs.Refusals.{refuses, answers}
 use Rattle.format.specs.Layout.{preamble}
@@ -87,6 +87,9 @@ what_is_read s bytes g buffer h =
     let t = events_of s in
     let d : file_from (preamble s) (thread_list t) (kind_list t) (object_list t) ≡ s =
     ap (file_with (preamble s)) (lists_back t) ∙ writes_again event_bytes (omega arith) s bytes g.layout (plain_today s) in
-    let q : Quiet (writer_rows (preamble s) (thread_list t) (kind_list t) (object_list t) buffer) =
-    ((λ n. n (lists_even t)), rw d (quiet_both (rows_of_file s) _ ((quiet_file s).1 g) ((λ l. omega arith), tt))) in
+    let q : Quiet (writer_rows (preamble s) (thread_list t) (kind_list t) (object_list t) buffer) = (
+      (λ n. n (lists_even t)),
+      subst (λ (x : List ℕ). Quiet (rows_of_file x ++ (row 10 nothing (length buffer < length x) ∷ []))) (sym d)
+          (quiet_both (rows_of_file s) (row 10 nothing (length buffer < length s) ∷ []) ((quiet_file s).1 g) ((λ l. omega arith), tt)),
+    ) in
     (write_exactly (preamble s) (thread_list t) (kind_list t) (object_list t) buffer (Bytes (length s), in_front s buffer)).1 (answers q (ap (λ (x : List ℕ). wrote x buffer) d))
