@@ -9,6 +9,7 @@ ghost use Rattle.compose.specs.Composed.{line_about, Composes, WritesParts};
 use composing::{TEXT_BYTES, Text};
 use input::Input;
 use limits::{EventNumber, Recording, Refusal};
+use std::io::ErrorKind;
 use wording::Reason;
 use writing::Written;
 
@@ -67,9 +68,12 @@ fn say_refused<R: Eprint>(rt: &R, r: Refusal, line: usize) {
     say(rt, "\n");
 }
 
+// Writes all of it. A reader who has left has had what it wanted, so nothing is said of that.
 fn put<R: Print + Eprint>(rt: &R, file: &[u8]) {
-    if let Err(_) = rt.write_all(file) {
-        say(rt, "compose: cannot write the recording\n");
+    if let Err(e) = rt.write_all(file) {
+        if e.kind() != ErrorKind::BrokenPipe {
+            say(rt, "compose: cannot write the recording\n");
+        }
     }
 }
 

@@ -9,6 +9,7 @@ use input::Input;
 use limits::Recording;
 use opening::Opened;
 use report::{Position, Progress};
+use std::io::ErrorKind;
 
 // One byte more than a file may have is enough to refuse it.
 const INPUT_BYTES: usize = Recording::MAX_BYTES + 1;
@@ -20,15 +21,19 @@ fn say<R: Eprint>(rt: &R, message: &str) {
     let _ = rt.eprint(message);
 }
 
-// Writes the first n bytes of a buffer, and says whether that succeeded.
+// Writes the first n bytes of a buffer, and says whether that succeeded. A reader who has left has had what it wanted, so nothing is said of that.
 fn put<R: Print + Eprint>(rt: &R, out: &[u8], n: usize) -> bool
     requires { n ≤ length out.now }
 {
-    if let Ok(()) = rt.write_all(&out[0..n]) {
-        return true;
+    match rt.write_all(&out[0..n]) {
+        Ok(()) => true,
+        Err(e) => {
+            if e.kind() != ErrorKind::BrokenPipe {
+                say(rt, "nightly: cannot write the report\n");
+            }
+            false
+        }
     }
-    say(rt, "nightly: cannot write the report\n");
-    false
 }
 
 // The report of a good file, block by block.

@@ -5,6 +5,7 @@ use composing::TEXT_BYTES;
 use input::Input;
 use limits::{EventNumber, Recording, Refusal};
 use showing::Shown;
+use std::io::ErrorKind;
 
 // One byte more than a file may have is enough to refuse it.
 const INPUT_BYTES: usize = Recording::MAX_BYTES + 1;
@@ -29,9 +30,12 @@ fn say_refused<R: Eprint>(rt: &R, r: Refusal) {
     say(rt, "\n");
 }
 
+// Writes all of it. A reader who has left has had what it wanted, so nothing is said of that.
 fn put<R: Print + Eprint>(rt: &R, text: &[u8]) {
-    if let Err(_) = rt.write_all(text) {
-        say(rt, "show: cannot write the text\n");
+    if let Err(e) = rt.write_all(text) {
+        if e.kind() != ErrorKind::BrokenPipe {
+            say(rt, "show: cannot write the text\n");
+        }
     }
 }
 
