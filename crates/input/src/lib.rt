@@ -1,7 +1,7 @@
 // What a reader gives, read whole: the programs lend it standard input.
 #![tactic(auto)]
 
-ghost use Rattle.input.specs.Input.{Within};
+ghost use Rattle.input.specs.Input.{Within, Gives};
 
 use std::io::Read;
 
@@ -13,9 +13,10 @@ pub enum Input {
 }
 
 // Reads until the buffer is full or the input ends.
-#[tactic(auto, unfolding(crate::specs::Input::Within))]
+#[tactic(auto, unfolding(crate::specs::Input::Within, crate::specs::Input::Gives))]
 pub fn read<R: Read>(from: &mut R, buffer: &mut [u8]) -> Input
-    ensures { Within result buffer.new }
+    ensures within { Within result buffer.new }
+    ensures bytes { Gives result (R.remaining from.old) (R.remaining from.new) buffer.new }
 {
     let mut n = 0;
     while n < buffer.len() {
