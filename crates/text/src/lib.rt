@@ -1,14 +1,16 @@
 // The text that a program reads and writes: numbers of a line; and words, numbers and refusals on standard output.
 #![tactic(auto)]
 
-ghost use Rattle.std.specs.Prelude.{◌≤◌, ◌<◌, length};
+ghost use Rattle.std.specs.Prelude.{ℕ, ◌≡◌, ◌≢◌, ◌≤◌, ◌<◌, min, length, slice_index};
 
 use limits::{EventNumber, Refusal};
 
 // The first place from `from` on that holds `stop`, or the end.
 pub fn until(text: &[u8], from: usize, stop: u8) -> usize
     requires { from ≤ length text.now }
-    ensures { (from ≤ result) × (result ≤ length text.now) }
+    ensures within { (from ≤ result) × (result ≤ length text.now) }
+    ensures before { (k : ℕ) → from ≤ k → k < result → slice_index text.now k ≢ stop }
+    ensures found { result < length text.now → slice_index text.now result ≡ stop }
 {
     let mut e = from;
     while e < text.len() {
@@ -81,7 +83,8 @@ pub fn numbers(line: &[u8], list: &mut [u16]) -> usize
 
 // The lower of two numbers.
 pub fn at_most(n: usize, most: usize) -> usize
-    ensures { result ≤ most }
+    ensures within { result ≤ most }
+    ensures value { result ≡ min n most }
 {
     if most < n {
         return most;
