@@ -3,7 +3,6 @@
 #![tactic(auto)]
 
 use input::Input;
-use libc::STDERR_FILENO;
 use limits::Recording;
 use questions::{Check, Finding};
 use text::{byte, count, word};
@@ -18,62 +17,64 @@ const LINE_BYTES: usize = appending::EVENT_WIDTH * NUMBERS;
 // Such a line, and one byte more than a recording may have.
 const INPUT_BYTES: usize = LINE_BYTES + Recording::MAX_BYTES + 1;
 
-// The line of a report's race.
-fn say_race(a: u16, b: u16, witness: &[u16], n: u16) {
-    word(b"race ");
-    text::pair(a, b);
-    word(b" witness");
-    text::list(witness, n);
+fn say<R: Eprint>(rt: &R, message: &str) {
+    let _ = rt.eprint(message);
 }
 
-fn verdict(file: &[u8], a: u16, b: u16) {
+// The line of a report's race.
+fn say_race<R: Print>(rt: &R, a: u16, b: u16, witness: &[u16], n: u16) {
+    word(rt, b"race ");
+    text::pair(rt, a, b);
+    word(rt, b" witness");
+    text::list(rt, witness, n);
+}
+
+fn verdict<R: Print>(rt: &R, file: &[u8], a: u16, b: u16) {
     let mut list = [0u16; Recording::MAX_EVENTS];
     let mut area = [0u8; Recording::AREA_BYTES];
     match questions::verdict(file, a, b, &mut list, &mut area) {
-        Finding::Refused(r) => text::refused(r),
-        Finding::Reported { length } => say_race(a, b, &list, length),
-        Finding::NotReported => word(b"not reported"),
+        Finding::Refused(r) => text::refused(rt, r),
+        Finding::Reported { length } => say_race(rt, a, b, &list, length),
+        Finding::NotReported => word(rt, b"not reported"),
     }
 }
 
-fn check(file: &[u8], a: u16, b: u16, list: &[u16]) {
+fn check<R: Print>(rt: &R, file: &[u8], a: u16, b: u16, list: &[u16]) {
     match questions::check_reordering(file, a, b, list) {
-        Check::Refused(r) => text::refused(r),
-        Check::Yes => word(b"yes"),
-        Check::No(fault) => count(b"no ", fault as u64),
+        Check::Refused(r) => text::refused(rt, r),
+        Check::Yes => word(rt, b"yes"),
+        Check::No(fault) => count(rt, b"no ", fault as u64),
     }
 }
 
-fn ask(line: &[u8], file: &[u8]) {
+fn ask<R: Print>(rt: &R, line: &[u8], file: &[u8]) {
     let mut numbers = [0u16; NUMBERS];
     let n = text::numbers(line, &mut numbers);
     let start = text::at_most(3, n);
     match numbers[0] {
-        3 => verdict(file, numbers[1], numbers[2]),
-        5 => check(file, numbers[1], numbers[2], &numbers[start..n]),
+        3 => verdict(rt, file, numbers[1], numbers[2]),
+        5 => check(rt, file, numbers[1], numbers[2], &numbers[start..n]),
         _ => return,
     }
-    byte(b'\n');
+    byte(rt, b'\n');
 }
 
 // The line, and the recording behind it.
-fn answer(bytes: &[u8]) {
+fn answer<R: Print + Eprint>(rt: &R, bytes: &[u8]) {
     let end = text::until(bytes, 0, b'\n');
     if LINE_BYTES <= end {
-        io::write_all(STDERR_FILENO, b"ask: the line is too long\n");
+        say(rt, "ask: the line is too long\n");
         return;
     }
     if end < bytes.len() {
-        ask(&bytes[0..end], &bytes[end + 1..]);
+        ask(rt, &bytes[0..end], &bytes[end + 1..]);
     }
 }
 
-fn main() {
+fn main(rt: HostRuntime) {
     let mut bytes = [0u8; INPUT_BYTES];
-    match input::read(&mut bytes) {
-        Input::Failed => {
-            io::write_all(STDERR_FILENO, b"ask: cannot read the recording\n");
-        }
-        Input::Bytes(n) => answer(&bytes[0..n]),
+    match input::read(&mut rt.stdin(), &mut bytes) {
+        Input::Failed => say(&rt, "ask: cannot read the recording\n"),
+        Input::Bytes(n) => answer(&rt, &bytes[0..n]),
     }
 }

@@ -8,8 +8,8 @@ ghost use Rattle.compose.specs.Composed.{line_about, Composes, WritesParts};
 
 use composing::{TEXT_BYTES, Text};
 use input::Input;
-use libc::{STDERR_FILENO, STDOUT_FILENO};
 use limits::{EventNumber, Recording, Refusal};
+use std::io::ErrorKind;
 use wording::Reason;
 use writing::Written;
 
@@ -24,53 +24,56 @@ pub enum Composed {
     Recording(usize),
 }
 
-fn say(message: &[u8]) {
-    io::write_all(STDERR_FILENO, message);
+fn say<R: Eprint>(rt: &R, message: &str) {
+    let _ = rt.eprint(message);
 }
 
 // A number after words.
-fn say_number(words: &[u8], n: u64) {
-    say(words);
-    io::print_decimal(STDERR_FILENO, n);
+fn say_number<R: Eprint>(rt: &R, words: &str, n: u64) {
+    say(rt, words);
+    let _ = rt.eprint(n);
 }
 
-fn say_reason(r: Reason) {
+fn say_reason<R: Eprint>(rt: &R, r: Reason) {
     match r {
-        Reason::Empty => say(b"an empty line\n"),
-        Reason::CarriageReturn => say(b"a carriage return\n"),
-        Reason::Tab => say(b"a tab\n"),
-        Reason::LateNote => say(b"a note after an event\n"),
-        Reason::NoteByte => say(b"a note with a byte that is not 20 to 7E hex\n"),
-        Reason::Words => say(b"not three words with one space between them\n"),
-        Reason::Kind => say(b"an unknown kind\n"),
-        Reason::NoNumber => say(b"not a number\n"),
-        Reason::LeadingZero => say(b"a leading zero\n"),
-        Reason::TooLarge => say(b"a number that is too large\n"),
+        Reason::Empty => say(rt, "an empty line\n"),
+        Reason::CarriageReturn => say(rt, "a carriage return\n"),
+        Reason::Tab => say(rt, "a tab\n"),
+        Reason::LateNote => say(rt, "a note after an event\n"),
+        Reason::NoteByte => say(rt, "a note with a byte that is not 20 to 7E hex\n"),
+        Reason::Words => say(rt, "not three words with one space between them\n"),
+        Reason::Kind => say(rt, "an unknown kind\n"),
+        Reason::NoNumber => say(rt, "not a number\n"),
+        Reason::LeadingZero => say(rt, "a leading zero\n"),
+        Reason::TooLarge => say(rt, "a number that is too large\n"),
     }
 }
 
-fn say_bad(line: usize, r: Reason) {
-    say_number(b"compose: bad line ", line as u64);
-    say(b": ");
-    say_reason(r);
+fn say_bad<R: Eprint>(rt: &R, line: usize, r: Reason) {
+    say_number(rt, "compose: bad line ", line as u64);
+    say(rt, ": ");
+    say_reason(rt, r);
 }
 
 // A refusal; one that speaks of an event also by its line.
-fn say_refused(r: Refusal, line: usize) {
+fn say_refused<R: Eprint>(rt: &R, r: Refusal, line: usize) {
     match r.event() {
-        EventNumber::Absent => say_number(b"compose: refused ", r.number() as u64),
+        EventNumber::Absent => say_number(rt, "compose: refused ", r.number() as u64),
         EventNumber::At(k) => {
-            say_number(b"compose: bad line ", line as u64);
-            say_number(b": refused ", r.number() as u64);
-            say_number(b" at ", k as u64);
+            say_number(rt, "compose: bad line ", line as u64);
+            say_number(rt, ": refused ", r.number() as u64);
+            say_number(rt, " at ", k as u64);
         }
     }
-    say(b"\n");
+    say(rt, "\n");
 }
 
-fn put(file: &[u8]) {
-    if !io::write_all(STDOUT_FILENO, file) {
-        say(b"compose: cannot write the recording\n");
+// Writes all of it. A reader who has left has had what it wanted, so nothing is said of that.
+fn put<R: Print + Eprint>(rt: &R, file: &[u8]) {
+    if let Err(e) = rt.write_all(file) {
+        if e.kind() != ErrorKind::BrokenPipe {
+            say(rt, "compose: cannot write the recording\n");
+        }
     }
 }
 
@@ -132,27 +135,27 @@ fn compose_text(text: &[u8], file: &mut [u8]) -> Composed
 }
 
 // Writes the recording that a text makes, or says why there is none.
-fn answer(text: &[u8])
+fn answer<R: Print + Eprint>(rt: &R, text: &[u8])
     requires { length text.now ≤ text_bytes }
 {
     let mut file = [0u8; Recording::MAX_BYTES];
     match compose_text(text, &mut file) {
-        Composed::BadLine(n, r) => say_bad(n, r),
-        Composed::Refused(r, line) => say_refused(r, line),
-        Composed::Recording(n) => put(&file[0..n]),
+        Composed::BadLine(n, r) => say_bad(rt, n, r),
+        Composed::Refused(r, line) => say_refused(rt, r, line),
+        Composed::Recording(n) => put(rt, &file[0..n]),
     }
 }
 
-fn main() {
+fn main(rt: HostRuntime) {
     let mut text = [0u8; INPUT_BYTES];
-    match input::read(&mut text) {
-        Input::Failed => say(b"compose: cannot read the text\n"),
+    match input::read(&mut rt.stdin(), &mut text) {
+        Input::Failed => say(&rt, "compose: cannot read the text\n"),
         Input::Bytes(n) => {
             if TEXT_BYTES < n {
-                say(b"compose: the text is too long\n");
+                say(&rt, "compose: the text is too long\n");
                 return;
             }
-            answer(&text[0..n]);
+            answer(&rt, &text[0..n]);
         }
     }
 }

@@ -1,2 +1,4 @@
 -- What a caller is told
 pub mod InputLaws
+-- What one more read adds
+mod ReadLaws

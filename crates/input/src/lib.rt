@@ -1,9 +1,9 @@
-// Standard input, read whole.
+// What a reader gives, read whole: the programs lend it standard input.
 #![tactic(auto)]
 
-ghost use Rattle.input.specs.Input.{Within};
+ghost use Rattle.input.specs.Input.{Within, Gives};
 
-use libc::STDIN_FILENO;
+use std::io::Read;
 
 // How many bytes were read, or that a read failed.
 #[derive(Clone, Copy)]
@@ -13,20 +13,18 @@ pub enum Input {
 }
 
 // Reads until the buffer is full or the input ends.
-pub fn read(buffer: &mut [u8]) -> Input
-    ensures { Within result buffer.new }
+#[tactic(auto, unfolding(crate::specs::Input::Within, crate::specs::Input::Gives))]
+pub fn read<R: Read>(from: &mut R, buffer: &mut [u8]) -> Input
+    ensures within { Within result buffer.new }
+    ensures bytes { Gives result (R.remaining from.old) (R.remaining from.new) buffer.new }
 {
     let mut n = 0;
     while n < buffer.len() {
-        let got = libc::read(STDIN_FILENO, &mut buffer[n..]);
-        if got < 0 {
-            return Input::Failed;
+        match from.read(&mut buffer[n..]) {
+            Ok(0) => return Input::Bytes(n),
+            Ok(more) => n += more,
+            Err(_) => return Input::Failed,
         }
-        let more = io::count(got, &buffer[n..]);
-        if more == 0 {
-            return Input::Bytes(n);
-        }
-        n += more;
     }
     Input::Bytes(n)
 }

@@ -1,15 +1,16 @@
 // The text that a program reads and writes: numbers of a line; and words, numbers and refusals on standard output.
 #![tactic(auto)]
 
-ghost use Rattle.std.specs.Prelude.{◌≤◌, ◌<◌, length};
+ghost use Rattle.std.specs.Prelude.{ℕ, ◌≡◌, ◌≢◌, ◌≤◌, ◌<◌, min, length, slice_index};
 
-use libc::STDOUT_FILENO;
 use limits::{EventNumber, Refusal};
 
 // The first place from `from` on that holds `stop`, or the end.
 pub fn until(text: &[u8], from: usize, stop: u8) -> usize
     requires { from ≤ length text.now }
-    ensures { (from ≤ result) × (result ≤ length text.now) }
+    ensures within { (from ≤ result) × (result ≤ length text.now) }
+    ensures before { (k : ℕ) → from ≤ k → k < result → slice_index text.now k ≢ stop }
+    ensures found { result < length text.now → slice_index text.now result ≡ stop }
 {
     let mut e = from;
     while e < text.len() {
@@ -82,7 +83,8 @@ pub fn numbers(line: &[u8], list: &mut [u16]) -> usize
 
 // The lower of two numbers.
 pub fn at_most(n: usize, most: usize) -> usize
-    ensures { result ≤ most }
+    ensures within { result ≤ most }
+    ensures value { result ≡ min n most }
 {
     if most < n {
         return most;
@@ -90,56 +92,56 @@ pub fn at_most(n: usize, most: usize) -> usize
     n
 }
 
-// ---- what is written
+// ---- what is written; where a write fails, nothing is said of it
 
-pub fn word(text: &[u8]) {
-    io::write_all(STDOUT_FILENO, text);
+pub fn word<P: Print>(out: &P, text: &[u8]) {
+    let _ = out.write_all(text);
 }
 
-pub fn byte(b: u8) {
+pub fn byte<P: Print>(out: &P, b: u8) {
     let one = [b];
-    word(&one);
+    word(out, &one);
 }
 
-fn number(n: u64) {
-    io::print_decimal(STDOUT_FILENO, n);
+fn number<P: Print>(out: &P, n: u64) {
+    let _ = out.print(n);
 }
 
 // A number after a word.
-pub fn count(text: &[u8], n: u64) {
-    word(text);
-    number(n);
+pub fn count<P: Print>(out: &P, text: &[u8], n: u64) {
+    word(out, text);
+    number(out, n);
 }
 
-pub fn refused(r: Refusal) {
-    count(b"refused ", r.number() as u64);
+pub fn refused<P: Print>(out: &P, r: Refusal) {
+    count(out, b"refused ", r.number() as u64);
     match r.event() {
         EventNumber::Absent => {}
-        EventNumber::At(k) => count(b" at ", k as u64),
+        EventNumber::At(k) => count(out, b" at ", k as u64),
     }
 }
 
 // Two event numbers, as in a pair.
-pub fn pair(a: u16, b: u16) {
-    number(a as u64);
-    entry(b);
+pub fn pair<P: Print>(out: &P, a: u16, b: u16) {
+    number(out, a as u64);
+    entry(out, b);
 }
 
 // A number after a space.
-fn entry(k: u16) {
-    byte(b' ');
-    number(k as u64);
+fn entry<P: Print>(out: &P, k: u16) {
+    byte(out, b' ');
+    number(out, k as u64);
 }
 
 // The first n numbers of a list, each after a space.
-pub fn list(l: &[u16], n: u16) {
+pub fn list<P: Print>(out: &P, l: &[u16], n: u16) {
     let end = n as usize;
     let mut i = 0;
     while i < l.len() {
         if i == end {
             return;
         }
-        entry(l[i]);
+        entry(out, l[i]);
         i += 1;
     }
 }
