@@ -1,5 +1,4 @@
 use Rattle.std.proofs.Common.{rules}
-use Prim.Native.Nat.{◌-◌}
 use Rattle.appending.proofs.AppendLaws.{word-start, word_on, word_over}
 use Rattle.appending.proofs.put_word.Goals as goal
 

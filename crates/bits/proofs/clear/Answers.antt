@@ -1,6 +1,5 @@
 use Rattle.std.proofs.Common.{rules}
 use Rattle.bits.proofs.ClearLaws.{cleared_more, cleared_end}
-use Prim.Native.Nat.{◌-◌}
 use Rattle.bits.proofs.clear.Goals as goal
 
 pub loop-i-preserved : goal.loop-i-preserved
