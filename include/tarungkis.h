@@ -1,6 +1,6 @@
 /* Tarungkis: a proved race predictor. The six questions, the writer and the report, for C and for whatever calls C.
  *
- * Build the library with `rt staticlib tarungkis` (target/staticlib/libtarungkis.a) and link it: cc program.c libtarungkis.a.
+ * Build the library with `rt lib` in crates/tarungkis (it is out/libtarungkis.a there) and link it: cc program.c libtarungkis.a.
  * examples/report.c is a whole program. docs/FORMAT.md has the format of a recording, and all refusals and faults by their numbers.
  *
  * What holds for every function:
