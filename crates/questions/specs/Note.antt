@@ -7,7 +7,7 @@ use Rattle.judging.specs.Judged.{refusal_of, rows_of_file}
 use Rattle.questions.specs.declared.Noted.{Noted}
 use Rattle.questions.specs.declared.Noted.TheVariants.{InFile, Operators}
 
--- a lent slice of bytes: where it begins in memory (ptr), and its bytes (now)
+-- a lent slice of bytes: where it begins in memory (ref_ptr), and its bytes (now)
 abbrev pub Slice : Type 0
 Slice = Bor (List ℕ)
 
