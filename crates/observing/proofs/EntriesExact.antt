@@ -8,8 +8,8 @@ use lib.ListN.{length, get_or}
 use Rattle.model.specs.Trace.{Trace}
 use Rattle.model.specs.Good.{Good}
 use Rattle.observing.specs.Entries.{answer_of, entry_at, Answered, ObservationsOf, given, with_entries}
-use Rattle.observing.specs.declared.Observations.{Observations}
-use Rattle.observing.specs.declared.Observations.TheVariants.{Given}
+use Rattle.std.specs.Prelude.{Result, Ok}
+use Rattle.limits.specs.declared.Refusal.{Refusal}
 use Rattle.observing.proofs.ObservingExact.{observed_in_exactly}
 use Rattle.observing.proofs.EntriesLaws.{Filled, answer_one, entry_answers, filled_one, entries-filled}
 
@@ -32,8 +32,8 @@ module _ (t : Trace) (g : Good t) (l : List ℕ) where
       }
 
   -- where no refusal is
-  pub given_exactly : length t < length l → (o : Observations × List ℕ) → ((Given (length t), with_entries t l) ≡ o) ↔ ObservationsOf t l o
+  pub given_exactly : length t < length l → (o : Result ℕ Refusal × List ℕ) → ((Ok (length t), with_entries t l) ≡ o) ↔ ObservationsOf t l o
   given_exactly long o = ((λ e. rw e at (given (answered long))), back o)
     where
-      back : (o : Observations × List ℕ) → ObservationsOf t l o → (Given (length t), with_entries t l) ≡ o
-      back o (given {l'} a) = ap (λ (x : List ℕ). (Given (length t), x)) (filled_one (entries-filled t l long) (filled a))
+      back : (o : Result ℕ Refusal × List ℕ) → ObservationsOf t l o → (Ok (length t), with_entries t l) ≡ o
+      back o (given {l'} a) = ap (λ (x : List ℕ). (Ok (length t), x)) (filled_one (entries-filled t l long) (filled a))

@@ -17,23 +17,22 @@ use Rattle.table.proofs.LinkFacts.{reads_observed, waits_less}
 use Rattle.observing.specs.Observing.{sees, observed_in}
 use Rattle.observing.specs.Entries.{not_aRead, answer_of, entry_at, entries, with_entries, observations_in}
 use Rattle.observing.specs.declared.Observed.{Observed}
-use Rattle.observing.specs.declared.Observed.TheVariants.{Refused as NotAnswered, Write, Start, NotARead}
+use Rattle.observing.specs.declared.Observed.TheVariants.{Write, Start, NotARead}
 use mathlib.Core.Option.{none}
 use mir.Syntax.{w16}
 use mir.Val.{Fits}
 use Rattle.limits.specs.declared.Refusal.TheVariants.{ListShort}
 use Rattle.table.specs.Links.{waits_for}
-use Rattle.observing.specs.declared.Observations.TheVariants.{Refused, Given}
+use Rattle.std.specs.Prelude.{Ok, Err}
 use Rattle.observing.proofs.ObservingExact.{some-write}
 
 -- ---- entries and answers
 
--- the entry that stands for an answer (a refusal has none)
+-- the entry that stands for an answer
 abbrev entry_of : Observed → ℕ
 entry_of (Write w) = w
 entry_of Start = 0
 entry_of NotARead = not_aRead
-entry_of (NotAnswered r) = not_aRead
 
 entry_sees : (w : ℕ) → entry_of (sees w) ≡ w
 entry_sees zero = refl
@@ -146,7 +145,7 @@ module _ {t : Trace} (n : ℕ) (e : n ≡ length t) where
       pub entering_more : (w : ℕ) → w ≡ entry_at t k → Entering t (k + 1) l (set l' k w)
       entering_more w q = let a = p.long in record { long = a; low = omega arith; filled = rw q (filled_more p.filled (omega arith)) }
 
-    pub entering_end : n < k → l' ≡ with_entries t l
+    pub entering_end : n + 1 ≤ k → l' ≡ with_entries t l
     entering_end h = let a = p.low in let z : k ≡ length t + 1 = omega arith in filled_one (rw z at p.filled) (entries-filled t l p.long)
 
 -- ---- the ways through the answers on good events
@@ -207,10 +206,10 @@ module _ (t : Trace) (k : ℕ) where
 -- ---- `observations_in`
 
 module _ (t : Trace) (l : List ℕ) (n : ℕ) (e : n ≡ length t) where
-  pub list_short : length l ≤ n → (Refused ListShort, l) ≡ observations_in none t l
+  pub list_short : length l ≤ n → (Err ListShort, l) ≡ observations_in none t l
   unfolding observations_in
   list_short h = rw (le-leb (length l) (length t) (omega arith))
 
-  pub list_given : {k : ℕ} {l' : List ℕ} → Entering t k l l' → n < k → (Given n, l') ≡ observations_in none t l
+  pub list_given : {k : ℕ} {l' : List ℕ} → Entering t k l l' → n + 1 ≤ k → (Ok n, l') ≡ observations_in none t l
   unfolding observations_in
-  list_given p h = rw (lt-leb (length l) (length t) p.long, e) (ap (λ (x : List ℕ). (Given (length t), x)) (entering_end n e p h))
+  list_given p h = rw (lt-leb (length l) (length t) p.long, e) (ap (λ (x : List ℕ). (Ok (length t), x)) (entering_end n e p h))

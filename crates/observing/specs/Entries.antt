@@ -1,5 +1,5 @@
 -- All of question 2's answers on the events of a good file at once: entry k of a lent list is the answer for number k.
-use Rattle.std.specs.Prelude.{ℕ, ◌≤◌, ◌<◌, ◌≡◌, cond, List, [], ◌∷◌, map, length, get_or, eqb, leb}
+use Rattle.std.specs.Prelude.{ℕ, ◌≤◌, ◌<◌, ◌≡◌, cond, List, [], ◌∷◌, map, length, get_or, eqb, leb, Result, Ok, Err}
 use Rattle.std.proofs.Math.Option.{Option}
 use Rattle.model.specs.Trace.{Trace, read, kind_of}
 use Rattle.model.specs.Lists.{numbers, in_front}
@@ -11,8 +11,6 @@ use Rattle.limits.specs.declared.Refusal.TheVariants.{ListShort}
 use Rattle.observing.specs.Observing.{ObservedOf, sees}
 use Rattle.observing.specs.declared.Observed.{Observed}
 use Rattle.observing.specs.declared.Observed.TheVariants.{NotARead}
-use Rattle.observing.specs.declared.Observations.{Observations}
-use Rattle.observing.specs.declared.Observations.TheVariants.{Refused, Given}
 
 -- the entry of what is not a read; no event has this number
 abbrev pub not_aRead : ℕ
@@ -35,8 +33,8 @@ pub record Answered (t : Trace) (l l' : List ℕ) : Type 0 where
   pub beyond : Beyond (length t) l l'
 
 -- how many events have their entry
-pub data ObservationsOf (t : Trace) (l : List ℕ) : Observations × List ℕ → Type 0 where
-  given : {l' : List ℕ} → Answered t l l' → ObservationsOf t l (Given (length t), l')
+pub data ObservationsOf (t : Trace) (l : List ℕ) : Result ℕ Refusal × List ℕ → Type 0 where
+  given : {l' : List ℕ} → Answered t l l' → ObservationsOf t l (Ok (length t), l')
 
 -- ---- computed
 
@@ -53,5 +51,5 @@ abbrev pub with_entries : Trace → List ℕ → List ℕ
 with_entries t l = in_front (entries t) l
 
 -- by the file's refusal f, if there is one, and its events; refusal 10 is for a list without an entry for each of the numbers 0 to n
-unfoldable pub observations_in : Option Refusal → Trace → List ℕ → Observations × List ℕ
-observations_in f t l = settled (λ r. (Refused r, l)) (Given (length t), with_entries t l) (either f (first (leb (length l) (length t) ∷ []) (ListShort ∷ [])))
+unfoldable pub observations_in : Option Refusal → Trace → List ℕ → Result ℕ Refusal × List ℕ
+observations_in f t l = settled (λ r. (Err r, l)) (Ok (length t), with_entries t l) (either f (first (leb (length l) (length t) ∷ []) (ListShort ∷ [])))

@@ -10,19 +10,11 @@ ghost use Rattle.observing.specs.Entries.{answer_of, entry_at, observations_in};
 use limits::{Event, Refusal};
 
 // The answer to question 2: the number of the write that the event sees, the start, or that it is not a read.
-#[derive(Clone, Copy)]
+#[derive(Clone, Copy, PartialEq, Eq, Debug)]
 pub enum Observed {
-    Refused(Refusal),
     Write(u16),
     Start,
     NotARead,
-}
-
-// The answer for all events at once: how many events have their entry in the lent list.
-#[derive(Clone, Copy)]
-pub enum Observations {
-    Refused(Refusal),
-    Given(u16),
 }
 
 // The entry of what is not a read; no event has this number.
@@ -32,13 +24,11 @@ const NOT_A_READ: u16 = 65535;
 pub fn answer_of(entry: u16) -> Observed
     ensures { result ≡ answer_of entry }
 {
-    if entry == NOT_A_READ {
-        return Observed::NotARead;
+    match entry {
+        NOT_A_READ => Observed::NotARead,
+        0 => Observed::Start,
+        _ => Observed::Write(entry),
     }
-    if entry == 0 {
-        return Observed::Start;
-    }
-    Observed::Write(entry)
 }
 
 // The entry of number k, whatever k is.
@@ -46,10 +36,7 @@ fn entry_at(table: &[u16], k: usize) -> u16
     requires { Linked table.now }
     ensures { result ≡ entry_at (trace table.now) k }
 {
-    if k < 1 {
-        return NOT_A_READ;
-    }
-    if table::count(table) < k {
+    if k < 1 || table::count(table) < k {
         return NOT_A_READ;
     }
     if table::kind_at(table, k) != Event::READ {
@@ -66,19 +53,17 @@ pub fn observed_in(table: &[u16], k: u16) -> Observed
     answer_of(entry_at(table, k as usize))
 }
 
-// The observed writes of all events: entry k of the lent list is the answer for number k, from 0 on.
-pub fn observations_in(table: &[u16], list: &mut [u16]) -> Observations
+// The observed writes of all events: entry k of the lent list is the answer for number k, from 0 on. Gives how many events have their entry.
+pub fn observations_in(table: &[u16], list: &mut [u16]) -> Result<u16, Refusal>
     requires { Linked table.now }
     ensures { (result, list.new) ≡ observations_in none (trace table.now) list.old }
 {
     let n = table::count(table);
     if list.len() <= n {
-        return Observations::Refused(Refusal::ListShort);
+        return Err(Refusal::ListShort);
     }
-    let mut k = 0;
-    while k <= n {
+    for k in 0..n + 1 {
         list[k] = entry_at(table, k);
-        k += 1;
     }
-    Observations::Given(n as u16)
+    Ok(n as u16)
 }

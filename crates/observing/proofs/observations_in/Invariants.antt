@@ -1,10 +1,6 @@
-use Prim.Native.Nat.{◌+◌, ◌-◌}
 use Rattle.table.specs.Table.{trace}
 use Rattle.observing.proofs.EntriesLaws.{Entering}
 use Rattle.observing.proofs.observations_in.Given as goal
 
 abbrev pub invariant-loop-k : goal.invariant-loop-k
 invariant-loop-k l = Entering (trace l.table) l.k l.initial.list l.list
-
-abbrev pub decreases-loop-k : goal.decreases-loop-k
-decreases-loop-k l = l.n + 1 - l.k
