@@ -3,28 +3,21 @@
 
 ghost use Rattle.input.specs.Input.{Within, Gives};
 
+use std::io;
 use std::io::Read;
 
-// How many bytes were read, or that a read failed.
-#[derive(Clone, Copy)]
-pub enum Input {
-    Failed,
-    Bytes(usize),
-}
-
-// Reads until the buffer is full or the input ends.
+// Reads until the buffer is full or the input ends, and gives how many bytes were read.
 #[tactic(auto, unfolding(crate::specs::Input::Within, crate::specs::Input::Gives))]
-pub fn read<R: Read>(from: &mut R, buffer: &mut [u8]) -> Input
+pub fn read<R: Read>(from: &mut R, buffer: &mut [u8]) -> io::Result<usize>
     ensures within { Within result buffer.new }
     ensures bytes { Gives result (R.remaining from.old) (R.remaining from.new) buffer.new }
 {
     let mut n = 0;
     while n < buffer.len() {
-        match from.read(&mut buffer[n..]) {
-            Ok(0) => return Input::Bytes(n),
-            Ok(more) => n += more,
-            Err(_) => return Input::Failed,
+        match from.read(&mut buffer[n..])? {
+            0 => return Ok(n),
+            more => n += more,
         }
     }
-    Input::Bytes(n)
+    Ok(n)
 }
