@@ -2,36 +2,16 @@
 use Prim.Native.Nat.{ℕ, ◌≤◌, ◌<◌}
 use native.Mathlib.Omega.{arith}
 use mathlib.Core.Path.{◌≡◌, sym, ◌∙◌}
-use mathlib.Core.Bool.{Bool, true, false, ◌||◌, and-true, and-false, or-true}
+use mathlib.Core.Bool.{Bool, false}
 use lib.ListN.{length}
-use lib.Dec.{eqb}
 use borrow.Author.Tests.{eq-eqb, ne_eqb, lt-ltb}
-use Rattle.model.specs.Trace.{Trace, read, write, thread_of, kind_of, object_of}
+use Rattle.model.specs.Trace.{Trace, thread_of, kind_of, object_of}
 use Rattle.model.specs.Race.{Conflicting}
 use Rattle.decision.specs.Decision.{is_access, is_conflicting}
-use Rattle.model.proofs.Tests.{by_cases, false_test}
+use Rattle.model.proofs.Tests.{false_test}
 use Rattle.decision.proofs.CheckExact.{true_valid}
 use Rattle.decision.proofs.ListingExact.{conflicting_exactly}
 use Rattle.table.specs.Conflicts.{Lower, accesses}
-
--- ---- the kinds
-
-module _ (c d : ℕ) where
-  pub write_read : c ≡ write → d ≡ read → true ≡ accesses c d
-  unfolding accesses
-  write_read e f = rw (e, f)
-
-  pub write-other : c ≡ write → (d ≡ read → ⊥) → eqb d write ≡ accesses c d
-  unfolding accesses
-  write-other e n = rw (e, ne_eqb d read n) (sym (and-true (eqb d write)))
-
-  pub read-other : (c ≡ write → ⊥) → c ≡ read → eqb d write ≡ accesses c d
-  unfolding accesses
-  read-other n e = rw e (by_cases (eqb d write) (λ h. rw (h, or-true (eqb d read))) (λ h. rw h (sym (and-false (eqb d read || false)))))
-
-  pub other_kind : (c ≡ write → ⊥) → (c ≡ read → ⊥) → false ≡ accesses c d
-  unfolding accesses
-  other_kind n e = rw (ne_eqb c read e, ne_eqb c write n)
 
 -- ---- the pair
 

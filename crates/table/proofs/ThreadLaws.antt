@@ -1,5 +1,5 @@
 -- The mask of the threads seen has as many ones as there are different threads.
-use Prim.Native.Nat.{ℕ, zero, suc, ◌-◌, ◌≤◌, ◌<◌}
+use Prim.Native.Nat.{ℕ, zero, suc, ◌+◌, ◌-◌, ◌≤◌, ◌<◌}
 use native.Mathlib.Omega.{arith}
 use mathlib.Core.Path.{◌≡◌, refl, sym, ◌∙◌, ap}
 use mathlib.Core.Bool.{true, false, not}
@@ -51,33 +51,34 @@ same_more mask c l p =
       number = ones_new mask c e ∙ ap suc p.number;
     }))
 
--- the mask has the threads of the events after k
+-- the mask has the threads of the events from k on
 pub record Seen (t : Trace) (k mask : ℕ) : Type 0 where
   pub good : Good t
-  pub low : k ≤ length t
-  same : Same mask (threads (drop k t))
+  pub low : k ≤ length t + 1
+  same : Same mask (threads (drop (k - 1) t))
 
 from_event : (t : Trace) (k : ℕ) → 0 < k → k ≤ length t → drop (k - 1) t ≡ at t k ∷ drop k t
 from_event t zero h b = absurd (omega arith)
 from_event t (suc k) h b = let e : suc k - 1 ≡ k = omega arith in rw e (drop-cons t k no_event b)
 
-pub seen_start : (t : Trace) (n : ℕ) → n ≡ length t → Good t → Seen t n 0
+pub seen_start : (t : Trace) (n : ℕ) → n ≡ length t → Good t → Seen t (n + 1) 0
 unfolding threads
-seen_start t n e g = record { good = g; low = omega arith; same = rw (drop_of_length-le t {i = n} (omega arith)) same_none }
+seen_start t n e g = record { good = g; low = omega arith; same = rw (drop_of_length-le t {i = n + 1 - 1} (omega arith)) same_none }
 
 module _ {t : Trace} {k mask : ℕ} (p : Seen t k mask) where
-  module _ (h : 0 < k) where
-    pub seen_valid : Valid t k
-    seen_valid = record { positive = h; bounded = p.low }
+  module _ (h : 1 < k) where
+    pub seen_valid : Valid t (k - 1)
+    seen_valid = let l = p.low in record { positive = omega arith; bounded = omega arith }
 
-    pub seen_small : (c : ℕ) → c ≡ thread_of t k → c < 16
-    seen_small c e = let l = p.good.thread_limit k seen_valid in omega arith
+    pub seen_small : (c : ℕ) → c ≡ thread_of t (k - 1) → c < 16
+    seen_small c e = let l = p.good.thread_limit (k - 1) seen_valid in omega arith
 
-    pub seen_more : (c : ℕ) → c ≡ thread_of t k → (m : ℕ) → m ≡ including mask c → Seen t (k - 1) m
+    pub seen_more : (c : ℕ) → c ≡ thread_of t (k - 1) → (m : ℕ) → m ≡ including mask c → Seen t (k - 1) m
     unfolding threads
     seen_more c e m d =
         let l = p.low in
-        record { good = p.good; low = omega arith; same = rw (from_event t k h l, d, e) (same_more mask (thread_of t k) (threads (drop k t)) p.same) }
+        let v = seen_valid in
+        record { good = p.good; low = omega arith; same = rw (from_event t (k - 1) v.positive v.bounded, d, e) (same_more mask (thread_of t (k - 1)) (threads (drop (k - 1) t)) p.same) }
 
-  pub seen_end : k ≤ 0 → ones mask ≡ length (threads t)
-  seen_end h = let e : k ≡ 0 = omega arith in p.same.number ∙ ap (λ (j : ℕ). length (threads (drop j t))) e
+  pub seen_end : k ≤ 1 → ones mask ≡ length (threads t)
+  seen_end h = let e : k - 1 ≡ 0 = omega arith in p.same.number ∙ ap (λ (j : ℕ). length (threads (drop j t))) e

@@ -46,7 +46,7 @@ pub fn wide(x: u16) -> usize
     ensures value { result ≡ x }
     ensures upper_bound { result < 65536 }
 {
-    x as usize
+    usize::from(x)
 }
 
 // Word c of event k's row.
@@ -95,7 +95,7 @@ pub fn thread_place(table: &[u16], k: usize) -> usize
     ensures value { result ≡ thread_of (trace table.now) k }
     ensures upper_bound { result ≤ max_thread }
 {
-    thread_at(table, k) as usize
+    usize::from(thread_at(table, k))
 }
 
 // The object of event k, as a place of a list by object.
@@ -121,10 +121,7 @@ pub fn is_event(table: &[u16], k: usize, kind: u8, object: usize) -> bool
     requires { Valid (trace table.now) k }
     ensures { result ≡ does (trace table.now) kind object k }
 {
-    if kind_at(table, k) != kind {
-        return false;
-    }
-    object_at(table, k) == object
+    kind_at(table, k) == kind && object_at(table, k) == object
 }
 
 // What column c has of event k.
@@ -180,19 +177,14 @@ pub fn forked_at(table: &[u16], k: usize) -> usize
 }
 
 // Are events of these kinds accesses, at least one a write?
+#[tactic(auto, unfolding(crate::specs::Conflicts::accesses))]
 fn accesses(c: u8, d: u8) -> bool
     ensures { result ≡ accesses c d }
 {
-    if c == Event::WRITE {
-        if d == Event::READ {
-            return true;
-        }
-        return d == Event::WRITE;
-    }
-    if c == Event::READ {
-        return d == Event::WRITE;
-    }
-    false
+    matches!(
+        (c, d),
+        (Event::WRITE, Event::READ | Event::WRITE) | (Event::READ, Event::WRITE)
+    )
 }
 
 // Are two events of the trace, lower first, a conflicting pair: of one cell, of different threads, both accesses, at least one a write?
@@ -200,31 +192,18 @@ fn conflicting_in(table: &[u16], a: usize, b: usize) -> bool
     requires { Lower (trace table.now) a b }
     ensures { result ≡ is_conflicting (trace table.now) a b }
 {
-    if object_at(table, a) != object_at(table, b) {
-        return false;
-    }
-    if thread_at(table, a) == thread_at(table, b) {
-        return false;
-    }
-    accesses(kind_at(table, a), kind_at(table, b))
+    object_at(table, a) == object_at(table, b)
+        && thread_at(table, a) != thread_at(table, b)
+        && accesses(kind_at(table, a), kind_at(table, b))
 }
 
 // Are a and b a conflicting pair? Any two numbers may be asked.
 pub fn conflicting(table: &[u16], a: u16, b: u16) -> bool
     ensures { result ≡ is_conflicting (trace table.now) a b }
 {
-    let lower = a as usize;
-    let higher = b as usize;
-    if lower < 1 {
-        return false;
-    }
-    if higher <= lower {
-        return false;
-    }
-    if count(table) < higher {
-        return false;
-    }
-    conflicting_in(table, lower, higher)
+    let lower = usize::from(a);
+    let higher = usize::from(b);
+    0 < lower && lower < higher && higher <= count(table) && conflicting_in(table, lower, higher)
 }
 
 // Sets word c of event k's row.
@@ -241,10 +220,8 @@ pub fn threads(table: &[u16]) -> u32
     ensures { result ≡ length (threads (trace table.now)) }
 {
     let mut seen = 0u16;
-    let mut k = count(table);
-    while 0 < k {
+    for k in (1..count(table) + 1).rev() {
         seen = bits::include(seen, thread_at(table, k));
-        k -= 1;
     }
     u16::count_ones(seen)
 }

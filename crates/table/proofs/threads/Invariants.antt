@@ -4,6 +4,3 @@ use Rattle.table.proofs.threads.Given as goal
 
 abbrev pub invariant-loop-k : goal.invariant-loop-k
 invariant-loop-k l = Seen (trace l.table) l.k l.seen
-
-abbrev pub decreases-loop-k : goal.decreases-loop-k
-decreases-loop-k l = l.k
