@@ -1,11 +1,10 @@
 -- The refusals: each has the paper's number, and some have an event number.
-use Rattle.std.specs.Prelude.{ℕ, List, [], ◌∷◌}
+use Rattle.std.specs.Prelude.{ℕ, List, [], ◌∷◌, ◌++◌, codes, Option as Stated, Some, None}
+use Rattle.std.specs.Fmt.{decimal}
 use Rattle.std.proofs.Math.Option.{Option, none, some}
 use Rattle.model.specs.Rows.{About, nothing, event, Answer, Row, First, Quiet}
 use Rattle.limits.specs.declared.Refusal.{Refusal}
 use Rattle.limits.specs.declared.Refusal.TheVariants.{FileSize, Mark, EventCount, Distance, Kind, Thread, Object, SelfOrSecond, AlreadyBegun, AlreadyJoined, LockHeld, NotHolder, ListShort, NotConflicting, AreaShort, Preamble}
-use Rattle.limits.specs.declared.EventNumber.{EventNumber}
-use Rattle.limits.specs.declared.EventNumber.TheVariants.{Absent, At}
 
 -- the paper's number
 abbrev pub number_of : Refusal → ℕ
@@ -26,29 +25,30 @@ number_of (SelfOrSecond k) = 15
 number_of (AlreadyBegun k) = 16
 number_of (AlreadyJoined k) = 17
 
--- the event number that goes with it
-abbrev pub event_of : Refusal → EventNumber
-event_of FileSize = Absent
-event_of Mark = Absent
-event_of EventCount = Absent
-event_of Distance = Absent
-event_of (Kind k) = At k
-event_of (Thread k) = At k
-event_of (Object k) = At k
-event_of (SelfOrSecond k) = At k
-event_of (AlreadyBegun k) = At k
-event_of (AlreadyJoined k) = At k
-event_of (LockHeld k) = At k
-event_of (NotHolder k) = At k
-event_of ListShort = Absent
-event_of NotConflicting = Absent
-event_of AreaShort = Absent
-event_of Preamble = Absent
+-- the event number that goes with it, where one does
+abbrev pub event_of : Refusal → Stated ℕ
+event_of (Kind k) = Some k
+event_of (Thread k) = Some k
+event_of (Object k) = Some k
+event_of (SelfOrSecond k) = Some k
+event_of (AlreadyBegun k) = Some k
+event_of (AlreadyJoined k) = Some k
+event_of (LockHeld k) = Some k
+event_of (NotHolder k) = Some k
+event_of _ = None
+
+-- in words: "refused N", or "refused N at K" where K is the number of an event
+abbrev pub at_text : Stated ℕ → List ℕ
+at_text None = []
+at_text (Some k) = codes " at " ++ decimal k
+
+abbrev pub text_of : Refusal → List ℕ
+text_of r = codes "refused " ++ decimal (number_of r) ++ at_text (event_of r)
 
 -- what goes with it, and the two: the refusal as a row has it
-abbrev pub about_of : EventNumber → About
-about_of Absent = nothing
-about_of (At k) = event k
+abbrev pub about_of : Stated ℕ → About
+about_of None = nothing
+about_of (Some k) = event k
 
 abbrev pub paper : Refusal → Answer
 paper r = record { number = number_of r; about = about_of (event_of r) }

@@ -1,10 +1,12 @@
 // What is limited, each kind of thing with its limits, and the refusals.
 #![tactic(auto)]
 
-ghost use Rattle.std.specs.Prelude.{◌≡◌, leb};
+ghost use Rattle.std.specs.Prelude.{◌≡◌, leb, Some};
 ghost use Rattle.model.specs.Good.{max_events, max_thread, object_limit, is_known_kind};
 ghost use Rattle.limits.specs.Limits.{is_file_size, is_area_size, no_locks};
-ghost use Rattle.limits.specs.Refusals.{number_of, event_of};
+ghost use Rattle.limits.specs.Refusals.{number_of, event_of, text_of};
+
+use std::fmt;
 
 // A thread, by its number.
 #[derive(Clone, Copy)]
@@ -60,10 +62,7 @@ impl Event {
     pub fn kind_known(self) -> bool
         ensures { result ≡ is_known_kind self.kind }
     {
-        if self.kind < Event::READ {
-            return false;
-        }
-        self.kind <= Event::JOIN
+        (Event::READ..=Event::JOIN).contains(&self.kind)
     }
 
     // The highest number of an object of a kind of event: that of a fork or join is a thread.
@@ -133,10 +132,7 @@ impl Recording {
     pub fn bytes_in_limit(n: usize) -> bool
         ensures { result ≡ is_file_size n }
     {
-        if n < Recording::TRAILER_BYTES {
-            return false;
-        }
-        n <= Recording::MAX_BYTES
+        (Recording::TRAILER_BYTES..=Recording::MAX_BYTES).contains(&n)
     }
 
     // May a recording have so many events?
@@ -155,7 +151,7 @@ impl Recording {
 }
 
 // Why a file or a question is refused; a case has the number of the event that it speaks of. `number_of` gives each its number in the paper.
-#[derive(Clone, Copy)]
+#[derive(Clone, Copy, PartialEq, Eq, Debug)]
 pub enum Refusal {
     FileSize,
     Mark,
@@ -178,13 +174,6 @@ pub enum Refusal {
     NotConflicting,
     AreaShort,
     Preamble,
-}
-
-// The event number that goes with a refusal, where one does.
-#[derive(Clone, Copy)]
-pub enum EventNumber {
-    Absent,
-    At(u16),
 }
 
 impl Refusal {
@@ -213,26 +202,31 @@ impl Refusal {
     }
 
     // The event that a refusal speaks of.
-    pub fn event(self) -> EventNumber
+    pub fn event(self) -> Option<u16>
         ensures { result ≡ event_of self }
     {
         match self {
-            Refusal::Kind(k) => EventNumber::At(k),
-            Refusal::Thread(k) => EventNumber::At(k),
-            Refusal::Object(k) => EventNumber::At(k),
-            Refusal::SelfOrSecond(k) => EventNumber::At(k),
-            Refusal::AlreadyBegun(k) => EventNumber::At(k),
-            Refusal::AlreadyJoined(k) => EventNumber::At(k),
-            Refusal::LockHeld(k) => EventNumber::At(k),
-            Refusal::NotHolder(k) => EventNumber::At(k),
-            Refusal::FileSize => EventNumber::Absent,
-            Refusal::Mark => EventNumber::Absent,
-            Refusal::EventCount => EventNumber::Absent,
-            Refusal::Distance => EventNumber::Absent,
-            Refusal::ListShort => EventNumber::Absent,
-            Refusal::NotConflicting => EventNumber::Absent,
-            Refusal::AreaShort => EventNumber::Absent,
-            Refusal::Preamble => EventNumber::Absent,
+            Refusal::Kind(k)
+            | Refusal::Thread(k)
+            | Refusal::Object(k)
+            | Refusal::SelfOrSecond(k)
+            | Refusal::AlreadyBegun(k)
+            | Refusal::AlreadyJoined(k)
+            | Refusal::LockHeld(k)
+            | Refusal::NotHolder(k) => Some(k),
+            _ => None,
+        }
+    }
+}
+
+impl fmt::Display for Refusal {
+    ghost output = { λ r. Some (text_of r) };
+
+    fn fmt<W: fmt::Write>(&self, f: &mut fmt::Formatter<W>) -> fmt::Result {
+        let number = self.number();
+        match self.event() {
+            Some(k) => write!(f, "refused {number} at {k}"),
+            None => write!(f, "refused {number}"),
         }
     }
 }

@@ -6,8 +6,7 @@ use mathlib.Core.List.{List}
 use lib.ListN.{length, take}
 use Rattle.limits.specs.Refusals.{number_of, event_of}
 use Rattle.limits.specs.declared.Refusal.{Refusal}
-use Rattle.limits.specs.declared.EventNumber.{EventNumber}
-use Rattle.limits.specs.declared.EventNumber.TheVariants.{Absent, At}
+use Rattle.std.specs.Prelude.{Option, Some, None}
 use Rattle.appending.specs.Decimal.{spaced, event_width, number_width}
 use Rattle.lines.specs.Lines.{spaced_all, line_end, events_word, threads_word, race_word, witness_word, races_word, at_word, refused_word, race_head, at_event, events_line, race_line, races_line, refused_line}
 use Rattle.lines.specs.Room.{head_width}
@@ -15,12 +14,12 @@ use Rattle.appending.specs.Appended.{Appends, AppendsShort}
 use Rattle.appending.proofs.AppendLaws.{appends_nothing, appends_then}
 
 module _ {at : ℕ} {out : List ℕ} where
-  pub no-event : (e : EventNumber) → e ≡ Absent → at + 9 ≤ length out → AppendsShort 9 (at_event e) at out out at
+  pub no-event : (e : Option ℕ) → e ≡ None → at + 9 ≤ length out → AppendsShort 9 (at_event e) at out out at
   unfolding at_event
   no-event e f h = rw f (record { appends = appends_nothing at out (omega arith); short = omega arith })
 
   module _ {p r : ℕ} {o₁ out' : List ℕ} where
-    pub at_event_lem : (e : EventNumber) (k : ℕ) → e ≡ At k → Appends at_word at out o₁ p → AppendsShort event_width (spaced k) p o₁ out' r → AppendsShort 9 (at_event e) at out out' r
+    pub at_event_lem : (e : Option ℕ) (k : ℕ) → e ≡ Some k → Appends at_word at out o₁ p → AppendsShort event_width (spaced k) p o₁ out' r → AppendsShort 9 (at_event e) at out out' r
     unfolding at_event
     at_event_lem e k f a b = rw f (record { appends = appends_then a b.appends; short = let g = a.ends in let h = b.short in omega arith })
 
@@ -41,7 +40,7 @@ module _ {at : ℕ} {out : List ℕ} where
           short = let e = w.ends in let f = x.short in let g = y.short in let h = z.ends in omega arith;
         }
 
-        pub refused_put : (why : Refusal) (x : ℕ) (e : EventNumber) → x ≡ number_of why → e ≡ event_of why → Appends refused_word at out o₁ p → AppendsShort number_width (spaced x) p o₁ o₂ q → AppendsShort 9 (at_event e) q o₂ o₃ s → Appends line_end s o₃ out' r → Appends (refused_line why) at out out' r
+        pub refused_put : (why : Refusal) (x : ℕ) (e : Option ℕ) → x ≡ number_of why → e ≡ event_of why → Appends refused_word at out o₁ p → AppendsShort number_width (spaced x) p o₁ o₂ q → AppendsShort 9 (at_event e) q o₂ o₃ s → Appends line_end s o₃ out' r → Appends (refused_line why) at out out' r
         unfolding refused_line
         refused_put why x e f g a b c d = rw (← f, ← g) (appends_then a (appends_then b.appends (appends_then c.appends d)))
 

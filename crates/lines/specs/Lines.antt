@@ -1,10 +1,8 @@
 -- The lines of the nightly report as bytes: decimal numbers without leading zeros, single spaces, and byte 0A at the end of each line.
-use Rattle.std.specs.Prelude.{ℕ, List, [], ◌∷◌, ◌++◌}
+use Rattle.std.specs.Prelude.{ℕ, List, [], ◌∷◌, ◌++◌, Option, Some, None}
 use Rattle.appending.specs.Decimal.{spaced}
 use Rattle.limits.specs.Refusals.{number_of, event_of}
 use Rattle.limits.specs.declared.Refusal.{Refusal}
-use Rattle.limits.specs.declared.EventNumber.{EventNumber}
-use Rattle.limits.specs.declared.EventNumber.TheVariants.{Absent, At}
 
 -- numbers, each after a space
 abbrev pub spaced_all : List ℕ → List ℕ
@@ -64,9 +62,9 @@ unfoldable pub races_line : ℕ → List ℕ
 races_line k = races_word ++ (spaced k ++ line_end)
 
 -- " at E", where an event number belongs to the refusal
-unfoldable pub at_event : EventNumber → List ℕ
-at_event Absent = []
-at_event (At k) = at_word ++ spaced k
+unfoldable pub at_event : Option ℕ → List ℕ
+at_event None = []
+at_event (Some k) = at_word ++ spaced k
 
 -- "refused N", or "refused N at E"
 unfoldable pub refused_line : Refusal → List ℕ

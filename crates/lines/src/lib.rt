@@ -9,7 +9,7 @@ ghost use Rattle.lines.specs.Lines.{spaced_all, race_head, at_event, events_line
 ghost use Rattle.lines.specs.Room.{head_width, Room, RaceRoom};
 
 use appending::EVENT_WIDTH;
-use limits::{EventNumber, Recording, Refusal};
+use limits::{Recording, Refusal};
 
 // The most bytes of the line of a race as far as its witness: `race`, two numbers, ` witness`.
 const HEAD_WIDTH: usize = 12 + 2 * EVENT_WIDTH;
@@ -74,13 +74,13 @@ pub fn races(out: &mut [u8], at: usize, k: u32) -> usize
 }
 
 // The event that a refusal speaks of, where there is one.
-fn put_at(out: &mut [u8], at: usize, e: EventNumber) -> usize
+fn put_at(out: &mut [u8], at: usize, e: Option<u16>) -> usize
     requires { at + 9 ≤ length out.old }
     ensures { AppendsShort 9 (at_event e) at out.old out.new result }
 {
     match e {
-        EventNumber::Absent => at,
-        EventNumber::At(k) => {
+        None => at,
+        Some(k) => {
             let word = appending::put_word(out, at, b" at");
             appending::put_event(out, word, k)
         }
