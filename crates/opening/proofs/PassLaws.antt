@@ -38,10 +38,10 @@ pub forward_start : {t : Trace} {c n : ℕ} {s : List ℕ} → Columns t c s →
 forward_start p l e = from_first p (omega arith) e
 
 module _ {t : Trace} {c n k : ℕ} {s₀ s : List ℕ} (p : Forward t c n k s₀ s) where
-  pub forward_end : n < k → Columns t (suc c) s
+  pub forward_end : n + 1 ≤ k → Columns t (suc c) s
   forward_end h = let e = p.all in passed_end p.passed (λ j v. let b = v.bounded in omega arith)
 
-  module _ (h : k ≤ n) where
+  module _ (h : k < n + 1) where
     forward_valid : Valid t k
     forward_valid = record { positive = p.low; bounded = let e = p.all in omega arith }
 
@@ -63,10 +63,10 @@ module _ {Knows : Trace → ℕ → List ℕ → Type 0} {c n : ℕ} where
     pub ahead_tails : {tails : List ℕ} → Tails (trace s₀) tails → Tails (trace s) tails
     ahead_tails x = rw (same p.two p.forward.passed) x
 
-    pub ahead_end : n < k → (d : ℕ) → d ≡ suc c → Columns (trace s₀) d s
+    pub ahead_end : n + 1 ≤ k → (d : ℕ) → d ≡ suc c → Columns (trace s₀) d s
     ahead_end h d e = rw e (forward_end p.forward h)
 
-    module _ (h : k ≤ n) where
+    module _ (h : k < n + 1) where
       pub ahead_turn : Turn Knows c k s list
       ahead_turn = turn p.two p.forward.passed (forward_valid p.forward h) p.knows
 
@@ -76,7 +76,7 @@ module _ {Knows : Trace → ℕ → List ℕ → Type 0} {c n : ℕ} where
           record { two = p.two; forward = forward_more p.forward h q.set (rw (same p.two o)); knows = turn_knows p.two o q }
 
 -- behind the last event the list of last events has those of the whole trace
-pub ahead_last : {n k : ℕ} {s₀ list s : List ℕ} → Ahead LastEvents 2 n k s₀ list s → k ≤ n + 1 → n < k → Tails (trace s₀) list
+pub ahead_last : {n k : ℕ} {s₀ list s : List ℕ} → Ahead LastEvents 2 n k s₀ list s → k ≤ n + 1 → n + 1 ≤ k → Tails (trace s₀) list
 ahead_last {n} {k} {s₀} {list} p h l =
     let e = p.forward.all in
     let z : k ≡ suc (length (trace s₀)) = omega arith in
@@ -84,30 +84,31 @@ ahead_last {n} {k} {s₀} {list} p h l =
 
 -- ---- backwards
 
--- those after event k have passed
+-- those from event k on have passed, and the list is that after event k - 1
 pub record Behind (Knows : Trace → ℕ → List ℕ → Type 0) (c k : ℕ) (s₀ list s : List ℕ) : Type 0 where
   pub two : 2 ≤ c
-  pub high : k ≤ length (trace s₀)
-  pub passed : Passed (trace s₀) c (λ j. k < j) s₀ s
-  pub knows : Knows (trace s₀) k list
+  pub high : k ≤ length (trace s₀) + 1
+  pub passed : Passed (trace s₀) c (λ j. k ≤ j) s₀ s
+  pub knows : Knows (trace s₀) (k - 1) list
 
 module _ {Knows : Trace → ℕ → List ℕ → Type 0} {c : ℕ} where
-  pub behind_start : {n : ℕ} {s list : List ℕ} → 2 ≤ c → c < columns → Columns (trace s) c s → n ≡ length (trace s) → Knows (trace s) n list → Behind Knows c n s list s
-  behind_start two l p e kn =
-      record { two = two; high = omega arith; passed = passed_start p l (λ k h v. let b = v.bounded in let z : ⊥ = omega arith in z); knows = kn }
+  pub behind_start : {n : ℕ} {s list : List ℕ} → 2 ≤ c → c < columns → Columns (trace s) c s → n ≡ length (trace s) → Knows (trace s) n list → Behind Knows c (n + 1) s list s
+  behind_start {n} two l p e kn =
+      let z : n + 1 - 1 ≡ n = omega arith in
+      record { two = two; high = omega arith; passed = passed_start p l (λ k h v. let b = v.bounded in let z : ⊥ = omega arith in z); knows = rw z kn }
 
   module _ {k : ℕ} {s₀ list s : List ℕ} (p : Behind Knows c k s₀ list s) where
-    pub behind_end : k ≤ 0 → (d : ℕ) → d ≡ suc c → Columns (trace s₀) d s
+    pub behind_end : k ≤ 1 → (d : ℕ) → d ≡ suc c → Columns (trace s₀) d s
     behind_end h d e = rw e (passed_end p.passed (λ j v. let a = v.positive in omega arith))
 
-    module _ (h : 0 < k) where
-      behind_valid : Valid (trace s₀) k
-      behind_valid = record { positive = h; bounded = p.high }
+    module _ (h : 1 < k) where
+      behind_valid : Valid (trace s₀) (k - 1)
+      behind_valid = let z = p.high in record { positive = omega arith; bounded = omega arith }
 
-      pub behind_turn : Turn Knows c k s list
+      pub behind_turn : Turn Knows c (k - 1) s list
       behind_turn = turn p.two p.passed behind_valid p.knows
 
-      pub behind_more : {s' list' : List ℕ} → Stepped Knows c k (k - 1) s s' list' → Behind Knows c (k - 1) s₀ list' s'
+      pub behind_more : {s' list' : List ℕ} → Stepped Knows c (k - 1) (k - 1 - 1) s s' list' → Behind Knows c (k - 1) s₀ list' s'
       behind_more q =
           let z = p.high in
           record {

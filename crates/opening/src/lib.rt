@@ -40,10 +40,8 @@ fn add_own(ev: &[u8], c: usize, table: &mut [u16])
     ensures { Columns (trace_in ev.now) (suc c) table.new }
 {
     let n = format::count(ev);
-    let mut k = 1;
-    while k <= n {
+    for k in 1..n + 1 {
         table::set_word(table, k, c, own_word(ev, k, c));
-        k += 1;
     }
 }
 
@@ -63,10 +61,8 @@ fn add_previous(table: &mut [u16], last: &mut [u16; Thread::COUNT])
     ensures { Columns (trace table.old) 3 table.new × Tails (trace table.old) last.new }
 {
     let n = table::count(table);
-    let mut k = 1;
-    while k <= n {
+    for k in 1..n + 1 {
         put_previous(table, k, last);
-        k += 1;
     }
 }
 
@@ -112,10 +108,8 @@ fn add_waits(table: &mut [u16], tails: &[u16; Thread::COUNT])
 {
     let n = table::count(table);
     let mut last = [0u16; Event::OBJECTS];
-    let mut k = 1;
-    while k <= n {
+    for k in 1..n + 1 {
         put_waits(table, k, tails, &mut last);
-        k += 1;
     }
 }
 
@@ -147,10 +141,8 @@ fn add_depths(table: &mut [u16])
 {
     let n = table::count(table);
     let mut depth = [0u16; Event::OBJECTS];
-    let mut k = 1;
-    while k <= n {
+    for k in 1..n + 1 {
         put_depth(table, k, &mut depth);
-        k += 1;
     }
 }
 
@@ -200,10 +192,9 @@ fn add_released(table: &mut [u16])
     ensures { Columns (trace table.old) 6 table.new }
 {
     let mut next = [0u16; Event::OBJECTS];
-    let mut k = table::count(table);
-    while 0 < k {
+    let n = table::count(table);
+    for k in (1..n + 1).rev() {
         put_released(table, k, &mut next);
-        k -= 1;
     }
 }
 
@@ -247,10 +238,8 @@ fn add_began(table: &mut [u16])
 {
     let n = table::count(table);
     let mut taken = [0u16; Event::OBJECTS];
-    let mut k = 1;
-    while k <= n {
+    for k in 1..n + 1 {
         put_began(table, k, &mut taken);
-        k += 1;
     }
 }
 
@@ -276,10 +265,8 @@ fn add_forked(table: &mut [u16])
 {
     let n = table::count(table);
     let mut forks = [0u16; Thread::COUNT];
-    let mut k = 1;
-    while k <= n {
+    for k in 1..n + 1 {
         put_forked(table, k, &mut forks);
-        k += 1;
     }
 }
 

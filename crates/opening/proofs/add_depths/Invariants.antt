@@ -1,10 +1,6 @@
-use Prim.Native.Nat.{◌+◌, ◌-◌}
 use Rattle.opening.specs.Knows.{Depths}
 use Rattle.opening.proofs.PassLaws.{Ahead}
 use Rattle.opening.proofs.add_depths.Given as goal
 
 abbrev pub invariant-loop-k : goal.invariant-loop-k
 invariant-loop-k l = Ahead Depths 4 l.n l.k l.initial.table l.depth l.table
-
-abbrev pub decreases-loop-k : goal.decreases-loop-k
-decreases-loop-k l = l.n + 1 - l.k

@@ -4,6 +4,3 @@ use Rattle.opening.proofs.add_released.Given as goal
 
 abbrev pub invariant-loop-k : goal.invariant-loop-k
 invariant-loop-k l = Behind NextEnds 5 l.k l.initial.table l.next l.table
-
-abbrev pub decreases-loop-k : goal.decreases-loop-k
-decreases-loop-k l = l.k
