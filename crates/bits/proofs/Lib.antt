@@ -1,2 +1,1 @@
 pub mod MaskLaws
-pub mod ClearLaws

@@ -4,13 +4,13 @@ use mathlib.Core.Bool.{true, false}
 use Prim.Native.Nat.{ℕ, zero, suc, ◌+◌, ◌*◌, ◌/◌, ◌%◌, ◌^◌, ◌≤◌, ◌<◌}
 use native.Mathlib.Omega.{arith}
 use native.Mathlib.Nat.{mod-eq_of_lt, one-mul, pow-succ', div-div-eq-div-mul, mul-div_right, mul-mod_right, div-eq_of_lt, div-one, mod-lt, lt_of_lt_of_le}
-use lib.Dec.{eqb, lit<}
+use lib.Dec.{eqb, ltb, lit<}
 use lib.Pow.{pow-lt, pow_pos, pow_mono}
 use lib.Bits.{bit_or, or_shr, or_mod, or_zero_r}
 use lib.Count.{ones, ones_step}
 use mir.Val.{Fits}
 use mir.Syntax.{w16}
-use borrow.Author.Tests.{eq-eqb, eqb-true, eqb-false}
+use borrow.Author.Tests.{eq-eqb, eqb-true, eqb-false, le-ltb}
 use Rattle.bits.specs.Mask.{bit, holds, including}
 
 -- a one shifted by less than the width
@@ -81,19 +81,13 @@ ones-or (suc x) m =
     let q = ones_step (bit_or m (2 ^ suc x)) in
     omega arith
 
--- ---- the ways through `contains`
-
-pub bit_test : (m x : ℕ) → eqb (bit m x) 1 ≡ holds m x
-unfolding holds
-bit_test m x = refl
-
 -- nothing above the width
-pub none_above : (m x : ℕ) → Fits w16 m → 16 ≤ x → false ≡ holds m x
+pub none_above : (m x : ℕ) → Fits w16 m → 16 ≤ x → ltb x 16 ≡ holds m x
 unfolding holds
 none_above m x f h =
     let l = f.fits in
     let p : 2 ^ 16 ≤ 2 ^ x = pow_mono h in
-    rw (div-eq_of_lt (lt_of_lt_of_le l p))
+    rw (le-ltb x 16 h, div-eq_of_lt (lt_of_lt_of_le l p))
 
 -- ---- what callers use
 

@@ -16,19 +16,12 @@ pub fn include(mask: u16, x: u8) -> u16
 pub fn contains(mask: u16, x: usize) -> bool
     ensures { result ≡ holds mask x }
 {
-    if 16 <= x {
-        return false;
-    }
-    (mask >> x) % 2 == 1
+    x < 16 && (mask >> x) % 2 == 1
 }
 
 // Every byte becomes zero.
 pub fn clear(area: &mut [u8])
     ensures { area.new ≡ replicate (length area.old) 0 }
 {
-    let mut i = 0;
-    while i < area.len() {
-        area[i] = 0;
-        i += 1;
-    }
+    area.fill(0);
 }
