@@ -11,6 +11,7 @@ use mir.Val.{Fits}
 use mir.Syntax.{w16}
 use lib.ListN.{length}
 use borrow.Author.Tests.{not-true, not-false}
+use Rattle.std.specs.Prelude.{Option as RustOption, None, Some}
 use Rattle.model.specs.Trace.{Trace}
 use Rattle.model.specs.Lists.{pair}
 use Rattle.model.specs.Listing.{Race, RaceOf, pair_of, After}
@@ -21,11 +22,8 @@ use Rattle.decision.proofs.ListingExact.{conflicting_exactly, witness_exactly, n
 use Rattle.table.specs.Table.{trace}
 use Rattle.races.specs.Witness.{WitnessRoom, Shows}
 use Rattle.races.proofs.AnswerLaws.{witnessed-none, witnessed-some, handed-none, handed-some}
-use Rattle.races.specs.declared.Witnessed.{Witnessed}
-use Rattle.races.specs.declared.Witnessed.TheVariants.{Absent, Length}
 use Rattle.races.specs.Next.{Hands, witness_of, NoRaces, FirstWith, with_none, with_race, HandsWith}
-use Rattle.races.specs.declared.Handed.{Handed}
-use Rattle.races.specs.declared.Handed.TheVariants.{NoMore, Race as RaceOn}
+use Rattle.races.specs.declared.Race.{Race as FoundRace}
 use mathlib.Core.Logic.{◌⊎◌, inl, inr, ⊎_elim}
 use Rattle.model.specs.Good.{WellFormed}
 
@@ -106,7 +104,7 @@ module _ (t : Trace) (w : WellFormed t) where
 -- ---- one pair
 
 module _ (t : Trace) (a b : ℕ) (c : Bool) (ec : c ≡ is_conflicting t a b) where
-  pub no-pair : not c ≡ true → (list : List ℕ) → Shows (witness_of t a b) list list Absent
+  pub no-pair : not c ≡ true → (list : List ℕ) → Shows (witness_of t a b) list list None
   unfolding witness_of
   no-pair w list = rw (sym ec ∙ not-true c w) (record { says = refl; wrote = refl })
 
@@ -114,7 +112,7 @@ module _ (t : Trace) (a b : ℕ) (c : Bool) (ec : c ≡ is_conflicting t a b) wh
     pub pair_there : is_conflicting t a b ≡ true
     pair_there = sym ec ∙ not-false c w
 
-    pub pair_is : {list list' : List ℕ} {r : Witnessed} → Shows (witness t a b) list list' r → Shows (witness_of t a b) list list' r
+    pub pair_is : {list list' : List ℕ} {r : RustOption ℕ} → Shows (witness t a b) list list' r → Shows (witness_of t a b) list list' r
     unfolding witness_of
     pair_is s = rw (sym ec ∙ not-false c w) s
 
@@ -147,7 +145,7 @@ module _ {table : List ℕ} {a b : ℕ} {list₀ list : List ℕ} {y : ℕ} (p :
     unfolding witness_of
     beyond z h = rw (false_test (conflicting_exactly (trace table) a z).0 (λ c. let b = c.second.bounded in omega arith))
 
-    pub with_no_more : n < y → HandsWith (trace table) a b list₀ list NoMore
+    pub with_no_more : n < y → HandsWith (trace table) a b list₀ list None
     with_no_more h = record {
       race = none;
       first = with_none (λ x z l m. go z l (dec_lt z y));
@@ -161,16 +159,16 @@ module _ {table : List ℕ} {a b : ℕ} {list₀ list : List ℕ} {y : ℕ} (p :
   pub trying_lent : WitnessRoom table list
   trying_lent = rw p.same.is p.given
 
-  module _ {list' : List ℕ} (x : Witnessed) (s : Shows (witness_of (trace table) a y) list list' x) where
-    pub with_found : (n : ℕ) → x ≡ Length n → HandsWith (trace table) a b list₀ list' (RaceOn a y n)
+  module _ {list' : List ℕ} (x : RustOption ℕ) (s : Shows (witness_of (trace table) a y) list list' x) where
+    pub with_found : (n : ℕ) → x ≡ Some n → HandsWith (trace table) a b list₀ list' (Some (record { lower = a; higher = y; length = n }))
     with_found n e =
         let w = witnessed-some (witness_of (trace table) a y) n (sym e ∙ s.says) in record {
           race = some (record { lower = a; higher = y; witness = w.0 });
           first = with_race y w.0 p.above w.1 p.tried;
-          hands = record { says = ap (λ (m : ℕ). RaceOn a y m) w.2; wrote = rw (← p.same.is) (rw w.1 at s.wrote) };
+          hands = record { says = let f : ℕ → RustOption FoundRace = λ m. Some (record { lower = a; higher = y; length = m }) in ap f w.2; wrote = rw (← p.same.is) (rw w.1 at s.wrote) };
         }
 
-    pub trying_on : x ≡ Absent → Trying table a b list₀ list' (y + 1)
+    pub trying_on : x ≡ None → Trying table a b list₀ list' (y + 1)
     trying_on e =
         let w = witnessed-none (witness_of (trace table) a y) (sym e ∙ s.says) in
         let l : list' ≡ list = rw w at s.wrote in record {
@@ -207,7 +205,7 @@ module _ {table : List ℕ} {a b : ℕ} {list₀ list : List ℕ} {x y : ℕ} (p
     pub next_fits : x ≤ n → Fits w16 (x + 1)
     next_fits h = let s = p.given.links.good.size in record { fits = omega arith }
 
-    pub no_more : n < x → Hands (next_race (trace table) a b) list₀ list NoMore
+    pub no_more : n < x → Hands (next_race (trace table) a b) list₀ list None
     no_more h =
         let l : length (trace table) < x = omega arith in
         let e = p.after ∙ next_over (trace table) p.given.links.good.well_formed x y l in
@@ -216,15 +214,15 @@ module _ {table : List ℕ} {a b : ℕ} {list₀ list : List ℕ} {x y : ℕ} (p
   pub walking_lent : WitnessRoom table list
   walking_lent = rw p.same.is p.given
 
-  module _ {list' : List ℕ} (r : Handed) (s : HandsWith (trace table) x y list list' r) where
-    pub race-found : (k j n : ℕ) → r ≡ RaceOn k j n → Hands (next_race (trace table) a b) list₀ list' (RaceOn k j n)
-    race-found k j n e =
-        let z = handed-some s.race k j n (sym e ∙ s.hands.says) in
+  module _ {list' : List ℕ} (r : RustOption FoundRace) (s : HandsWith (trace table) x y list list' r) where
+    pub race-found : (o : FoundRace) → r ≡ Some o → Hands (next_race (trace table) a b) list₀ list' (Some o)
+    race-found o e =
+        let z = handed-some s.race o (sym e ∙ s.hands.says) in
         let f : FirstWith (trace table) x y (some z.0) = rw z.1 at s.first in
         let g = p.after ∙ next-found (trace table) p.given.links.good.well_formed x y z.0 f ∙ sym z.1 in
         rw g (record { says = sym e ∙ s.hands.says; wrote = rw (← p.same.is) s.hands.wrote })
 
-    pub walking_on : r ≡ NoMore → Walking table a b list₀ list' (x + 1) (x + 1)
+    pub walking_on : r ≡ None → Walking table a b list₀ list' (x + 1) (x + 1)
     walking_on e =
         let z = handed-none s.race (sym e ∙ s.hands.says) in
         let l : list' ≡ list = rw z at s.hands.wrote in record {

@@ -1,14 +1,14 @@
 -- The ways to a pair's witness.
-use Prim.Native.Nat.{ℕ, suc, ◌+◌, ◌-◌, ◌≤◌, ◌<◌}
+use Prim.Native.Nat.{ℕ, ◌+◌, ◌-◌, ◌≤◌}
 use native.Mathlib.Omega.{arith}
-use native.Mathlib.Numerals.{add-one}
 use mathlib.Core.Path.{◌≡◌, refl, sym, ◌∙◌, ap}
 use mathlib.Core.Logic.{◌≢◌, ◌⊎◌, inl, inr, ⊎_elim}
 use mathlib.Core.Bool.{Bool, true, false, not}
-use mathlib.Core.List.{List, [], ◌∷◌, ◌++◌}
-use lib.ListN.{length, get_or, set, take, drop, length-set, take-append-drop}
-use lib.Seq.{length-take-le, take-suc-set, drop-set-lt, take_all, take-suc, drop-drop}
+use mathlib.Core.List.{List, ◌++◌}
+use lib.ListN.{length, take, drop}
+use lib.Seq.{length-take-le}
 use borrow.Author.Tests.{not-true, not-false}
+use Rattle.std.specs.Prelude.{Option as RustOption, None, Some}
 use Rattle.model.specs.Trace.{Trace, Valid, join, thread_of, kind_of}
 use Rattle.model.specs.Lists.{◌∈◌, in_front, own, only, just, all_but, pair}
 use Rattle.model.specs.Observed.{observed}
@@ -37,8 +37,6 @@ use Rattle.bounds.specs.Bounds.{Given, Ended, Needed, Bound, Covers}
 use Rattle.bounds.proofs.StairLaws.{parts_lists, merge_is}
 use Rattle.races.specs.Witness.{WitnessRoom, Shows}
 use Rattle.races.specs.Engine.{if_correct, shown_of, Coned, Joinable, Mergeable}
-use Rattle.races.specs.declared.Witnessed.{Witnessed}
-use Rattle.races.specs.declared.Witnessed.TheVariants.{Absent, Length}
 
 -- ---- `merge`
 
@@ -64,55 +62,16 @@ module _ {s : List ℕ} {m : ℕ} {P Q ends low : List ℕ} (e : Ended s m P Q e
     pub merge_done : (out : List ℕ) {out' : List ℕ} → out' ≡ in_front (climb (at need) P Q) out → out' ≡ in_front (least_merge (trace s) P Q) out
     merge_done out q = q ∙ ap (λ (l : List ℕ). in_front l out) merged
 
--- ---- `copy`
-
-pub record Copying (from list₀ : List ℕ) (i : ℕ) (list : List ℕ) : Type 0 where
-  pub long : length list ≡ length list₀
-  pub room : length from ≤ length list₀
-  pub few : i ≤ length from
-  pub front : take i list ≡ take i from
-  pub rest : drop i list ≡ drop i list₀
-
-pub copy_start : {from list : List ℕ} → length from ≤ length list → Copying from list 0 list
-copy_start h = record { long = refl; room = h; few = omega arith; front = refl; rest = refl }
-
-module _ {from list₀ : List ℕ} {i : ℕ} {list : List ℕ} (p : Copying from list₀ i list) where
-  module _ (h : i < length from) where
-    pub copy_room : i < length list
-    copy_room = let l = p.long in let r = p.room in omega arith
-
-    pub copy_more : Copying from list₀ (i + 1) (set list i (get_or from i 0))
-    copy_more =
-        let l = length-set list i (get_or from i 0) in
-        let e : drop (suc i) list ≡ drop (suc i) list₀ = drop_more i list list₀ p.rest in
-        rw (add-one i) (record {
-          long = l ∙ p.long;
-          room = p.room;
-          few = omega arith;
-          front = take-suc-set list i (get_or from i 0) copy_room ∙ ap (λ (x : List ℕ). x ++ (get_or from i 0 ∷ [])) p.front ∙ sym (take-suc from i 0 h);
-          rest = drop-set-lt (suc i) list i (get_or from i 0) (omega arith) ∙ e;
-        })
-      where
-        drop_more : (n : ℕ) (a b : List ℕ) → drop n a ≡ drop n b → drop (suc n) a ≡ drop (suc n) b
-        drop_more n a b q = rw (← add-one n) (sym (drop-drop 1 n a) ∙ ap (drop 1) q ∙ drop-drop 1 n b)
-
-  pub copy_end : length from ≤ i → list ≡ in_front from list₀
-  unfolding in_front
-  copy_end h =
-      let f = p.few in
-      let e : i ≡ length from = omega arith in
-      sym (take-append-drop i list) ∙ rw (p.front, p.rest, e, take_all (length from) from (omega arith)) refl
-
 -- ---- `show`
 
 module _ {s list : List ℕ} (merged : List ℕ) (q : WitnessRoom s list) (f : length merged ≤ length (trace s)) (b : Bool) (eb : b ≡ is_correct (trace s) merged) where
-  pub show_none : not b ≡ true → Shows (if_correct (trace s) merged) list list Absent
+  pub show_none : not b ≡ true → Shows (if_correct (trace s) merged) list list None
   unfolding if_correct
   show_none w = rw (sym eb ∙ not-true b w) (record { says = refl; wrote = refl })
 
-  pub show_some : not b ≡ false → {list' : List ℕ} → list' ≡ in_front merged list → Shows (if_correct (trace s) merged) list list' (Length (length merged))
-  unfolding if_correct
-  show_some w e = rw (sym eb ∙ not-false b w) (record { says = refl; wrote = e })
+  pub show_some : not b ≡ false → {front : List ℕ} → front ≡ merged → Shows (if_correct (trace s) merged) list (front ++ drop (length merged) list) (Some (length merged))
+  unfolding if_correct in_front
+  show_some w e = rw (sym eb ∙ not-false b w, e) (record { says = refl; wrote = refl })
 
 -- ---- `join`
 
@@ -134,7 +93,7 @@ module _ {s : List ℕ} {m : ℕ} {tops P Q : List ℕ} (g : Joinable s m tops P
     pub join_few : length (take (length P + length Q) out') ≤ length (trace s)
     join_few = let a = join_front in let f = g.few in omega arith
 
-    pub join-shown : {list list' : List ℕ} {r : Witnessed} → Shows (if_correct (trace s) (take (length P + length Q) out')) list list' r → Shows (if_correct (trace s) (least_merge (trace s) P Q)) list list' r
+    pub join-shown : {list list' : List ℕ} {r : RustOption ℕ} → Shows (if_correct (trace s) (take (length P + length Q) out')) list list' r → Shows (if_correct (trace s) (least_merge (trace s) P Q)) list list' r
     join-shown x = rw front_is at x
 
 -- ---- `split`
@@ -208,7 +167,7 @@ module _ {s list : List ℕ} (q : WitnessRoom s list) {tops : List ℕ} (c : Con
         let o = others_cone c.apart c.are y in
         rw (rest_whole moved max_events i l) (record { links = q.links; parts = rw (a, o) (cone-parts (trace s) c m); covers = rw o (cone_covers (trace s) c m); few = both_few x y })
 
-    pub split_shown : length moved ≡ max_events → {list' : List ℕ} {r : Witnessed} → Shows (if_correct (trace s) (least_merge (trace s) (take (max_events - i) (drop i moved)) (take n others))) list list' r → Shows (shown_of (trace s) m tops) list list' r
+    pub split_shown : length moved ≡ max_events → {list' : List ℕ} {r : RustOption ℕ} → Shows (if_correct (trace s) (least_merge (trace s) (take (max_events - i) (drop i moved)) (take n others))) list list' r → Shows (shown_of (trace s) m tops) list list' r
     unfolding shown_of
     split_shown l z = rw (rest_whole moved max_events i l, x.is, y.is) at z
 
@@ -231,7 +190,7 @@ module _ {table list : List ℕ} (q : WitnessRoom table list) (a b : ℕ) (confl
   rooted = record { links = q.links; apart = apart; no_join = for_pair (λ r. kind_of (trace table) r ≢ join) (no_join a accesses.0) (no_join b accesses.1) }
 
   module _ {tops : List ℕ} (x : Bool) (c : Told (trace table) (pair a b) tops x) where
-    pub root_found : not x ≡ true → Shows (witness (trace table) a b) list list Absent
+    pub root_found : not x ≡ true → Shows (witness (trace table) a b) list list None
     unfolding shown_for
     root_found w = rw (root_in apart c (not-true x w)) (record { says = refl; wrote = refl })
 
@@ -243,6 +202,6 @@ module _ {table list : List ℕ} (q : WitnessRoom table list) (a b : ℕ) (confl
         pub pair_thread : m ≤ max_thread
         pair_thread = rw em (q.links.good.thread_limit a valid_a)
 
-        pub pair-shown : {list' : List ℕ} {r : Witnessed} → Shows (shown_of (trace table) m tops) list list' r → Shows (witness (trace table) a b) list list' r
+        pub pair-shown : {list' : List ℕ} {r : RustOption ℕ} → Shows (shown_of (trace table) m tops) list list' r → Shows (witness (trace table) a b) list list' r
         unfolding shown_of if_correct shown_for
         pair-shown s = rw (roots_out apart c (not-false x w), ← em, ← under-cone apart (told_tops c (not-false x w))) s

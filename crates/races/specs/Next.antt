@@ -1,17 +1,16 @@
 -- The next race after two numbers, handed out with its witness.
-use Rattle.std.specs.Prelude.{ℕ, ◌<◌, ◌≡◌, cond, List, length}
+use Rattle.std.specs.Prelude.{ℕ, ◌<◌, ◌≡◌, cond, Option as RustOption, None, Some, List, length}
 use Rattle.std.proofs.Math.Option.{Option, none, some}
 use Rattle.model.specs.Trace.{Trace}
 use Rattle.model.specs.Listing.{Race}
 use Rattle.decision.specs.Decision.{witness, is_conflicting}
 use Rattle.races.specs.Witness.{list_with}
-use Rattle.races.specs.declared.Handed.{Handed}
-use Rattle.races.specs.declared.Handed.TheVariants.{NoMore, Race as RaceOn}
+use Rattle.races.specs.declared.Race.{Race as FoundRace}
 
 -- the answer that hands out the race o, if there is one
-abbrev pub handed_out : Option Race → Handed
-handed_out none = NoMore
-handed_out (some x) = RaceOn x.lower x.higher (length x.witness)
+abbrev pub handed_out : Option Race → RustOption FoundRace
+handed_out none = None
+handed_out (some x) = Some (record { lower = x.lower; higher = x.higher; length = length x.witness })
 
 -- its witness
 abbrev pub witness_in : Option Race → Option (List ℕ)
@@ -19,7 +18,7 @@ witness_in none = none
 witness_in (some x) = some x.witness
 
 -- the race, with its witness in the front of the lent list
-pub record Hands (o : Option Race) (list list' : List ℕ) (r : Handed) : Type 0 where
+pub record Hands (o : Option Race) (list list' : List ℕ) (r : RustOption FoundRace) : Type 0 where
   pub says : r ≡ handed_out o
   pub wrote : list' ≡ list_with (witness_in o) list
 
@@ -39,7 +38,7 @@ pub data FirstWith (t : Trace) (a b : ℕ) : Option Race → Type 0 where
   with_race : (y : ℕ) (ρ : List ℕ) → b < y → witness_of t a y ≡ some ρ → NoRaces t a b y → FirstWith t a b (some (record { lower = a; higher = y; witness = ρ }))
 
 -- that race, handed out
-pub record HandsWith (t : Trace) (a b : ℕ) (list list' : List ℕ) (r : Handed) : Type 0 where
+pub record HandsWith (t : Trace) (a b : ℕ) (list list' : List ℕ) (r : RustOption FoundRace) : Type 0 where
   pub race : Option Race
   pub first : FirstWith t a b race
   pub hands : Hands race list list' r

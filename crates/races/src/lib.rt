@@ -14,22 +14,12 @@ ghost use Rattle.races.specs.Next.{Hands, HandsWith, witness_of};
 
 use limits::{Recording, Thread};
 
-// The witness of a pair: none, or how long it is.
+// A race, with the length of its witness.
 #[derive(Clone, Copy)]
-pub enum Witnessed {
-    Absent,
-    Length(u16),
-}
-
-// The next race, with the length of its witness.
-#[derive(Clone, Copy)]
-pub enum Handed {
-    NoMore,
-    Race {
-        lower: u16,
-        higher: u16,
-        length: u16,
-    },
+pub struct Race {
+    pub lower: u16,
+    pub higher: u16,
+    pub length: u16,
 }
 
 // The merge of p, the moved thread's events, and q, the others', by their least staircase: in the front of a list.
@@ -44,28 +34,16 @@ fn merge(table: &[u16], m: u8, tops: &[u16; Thread::COUNT], p: &[u16], q: &[u16]
     stairs::climb(p, q, &need, out);
 }
 
-// A list in the front of another.
-fn copy(from: &[u16], list: &mut [u16])
-    requires { length from.now ≤ length list.old }
-    ensures { list.new ≡ in_front from.now list.old }
-{
-    let mut i = 0;
-    while i < from.len() {
-        list[i] = from[i];
-        i += 1;
-    }
-}
-
 // The merge is the witness where it is a correct reordering: the least staircase has what must stand before, and this asks for what must not.
-fn show(table: &[u16], merged: &[u16], list: &mut [u16]) -> Witnessed
+fn show(table: &[u16], merged: &[u16], list: &mut [u16]) -> Option<u16>
     requires { WitnessRoom table.now list.old × (length merged.now ≤ length (trace table.now)) }
     ensures { Shows (if_correct (trace table.now) merged.now) list.old list.new result }
 {
     if !checking::is_correct(table, merged) {
-        return Witnessed::Absent;
+        return None;
     }
-    copy(merged, list);
-    Witnessed::Length(merged.len() as u16)
+    list[..merged.len()].copy_from_slice(merged);
+    Some(merged.len() as u16)
 }
 
 // The witness by the two lists.
@@ -76,7 +54,7 @@ fn join(
     p: &[u16],
     q: &[u16],
     list: &mut [u16],
-) -> Witnessed
+) -> Option<u16>
     requires { WitnessRoom table.now list.old × Joinable table.now m tops.now p.now q.now }
     ensures { Shows (if_correct (trace table.now) (least_merge (trace table.now) p.now q.now)) list.old list.new result }
 {
@@ -87,7 +65,7 @@ fn join(
 }
 
 // The witness by the cone, which reaches up to the tops, with thread m as the moved thread.
-fn split(table: &[u16], m: u8, tops: &[u16; Thread::COUNT], list: &mut [u16]) -> Witnessed
+fn split(table: &[u16], m: u8, tops: &[u16; Thread::COUNT], list: &mut [u16]) -> Option<u16>
     requires { WitnessRoom table.now list.old × (Coned (trace table.now) tops.now × (m ≤ max_thread)) }
     ensures { Shows (shown_of (trace table.now) m tops.now) list.old list.new result }
 {
@@ -99,80 +77,60 @@ fn split(table: &[u16], m: u8, tops: &[u16; Thread::COUNT], list: &mut [u16]) ->
 }
 
 // The witness of a conflicting pair, in the front of the lent list. No pair is reported with a or b in its cone.
-pub fn witness(table: &[u16], a: u16, b: u16, list: &mut [u16]) -> Witnessed
+pub fn witness(table: &[u16], a: u16, b: u16, list: &mut [u16]) -> Option<u16>
     requires { WitnessRoom table.now list.old × (is_conflicting (trace table.now) a b ≡ true) }
     ensures { Shows (witness (trace table.now) a b) list.old list.new result }
 {
     let roots = [a, b];
     let mut tops = [0u16; Thread::COUNT];
     if !cone::outside(table, &roots, &mut tops) {
-        return Witnessed::Absent;
+        return None;
     }
     let m = table::thread_at(table, a as usize);
     split(table, m, &tops, list)
 }
 
 // The witness of two numbers, where they are a conflicting pair.
-fn race_on(table: &[u16], a: u16, b: u16, list: &mut [u16]) -> Witnessed
+fn race_on(table: &[u16], a: u16, b: u16, list: &mut [u16]) -> Option<u16>
     requires { WitnessRoom table.now list.old }
     ensures { Shows (witness_of (trace table.now) a b) list.old list.new result }
 {
     if !table::conflicting(table, a, b) {
-        return Witnessed::Absent;
+        return None;
     }
     witness(table, a, b, list)
 }
 
 // The first race with a as its lower event and a higher one above b.
-fn next_with(table: &[u16], a: u16, b: u16, list: &mut [u16]) -> Handed
+fn next_with(table: &[u16], a: u16, b: u16, list: &mut [u16]) -> Option<Race>
     requires { WitnessRoom table.now list.old }
     ensures { HandsWith (trace table.now) a b list.old list.new result }
 {
-    let n = table::count(table);
-    let mut y = b as usize + 1;
-    while y <= n {
+    for y in b as usize + 1..=table::count(table) {
         let higher = y as u16;
-        match race_on(table, a, higher, list) {
-            Witnessed::Absent => {}
-            Witnessed::Length(length) => {
-                return Handed::Race {
-                    lower: a,
-                    higher,
-                    length,
-                };
-            }
+        if let Some(length) = race_on(table, a, higher, list) {
+            return Some(Race {
+                lower: a,
+                higher,
+                length,
+            });
         }
-        y += 1;
     }
-    Handed::NoMore
+    None
 }
 
 // The first race after (a, b): by lower event, then by higher.
-pub fn next_race(table: &[u16], a: u16, b: u16, list: &mut [u16]) -> Handed
+pub fn next_race(table: &[u16], a: u16, b: u16, list: &mut [u16]) -> Option<Race>
     requires { WitnessRoom table.now list.old }
     ensures { Hands (next_race (trace table.now) a b) list.old list.new result }
 {
-    let n = table::count(table);
-    let mut x = a as usize;
     let mut after = b;
-    while x <= n {
+    for x in a as usize..=table::count(table) {
         let lower = x as u16;
-        match next_with(table, lower, after, list) {
-            Handed::NoMore => {}
-            Handed::Race {
-                lower,
-                higher,
-                length,
-            } => {
-                return Handed::Race {
-                    lower,
-                    higher,
-                    length,
-                };
-            }
+        if let Some(race) = next_with(table, lower, after, list) {
+            return Some(race);
         }
-        x += 1;
-        after = x as u16;
+        after = lower + 1;
     }
-    Handed::NoMore
+    None
 }

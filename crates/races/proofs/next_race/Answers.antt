@@ -1,4 +1,4 @@
-use Rattle.std.proofs.Common.{rules}
+use Rattle.std.proofs.Common.{arith, rules}
 use Rattle.races.proofs.ListLaws.{walking_start, lower_fits, walking_lent, race-found, next_fits, walking_on, no_more}
 use Rattle.races.proofs.next_race.Goals as goal
 
@@ -11,14 +11,17 @@ overflow_cast-lower c = search (lower_fits, rules)
 pub next_with-requires : goal.next_with-requires
 next_with-requires c = search (walking_lent, rules)
 
-pub returns-in-Race : goal.returns-in-Race
-returns-in-Race c = search (race-found, rules)
+pub returns-in-Some : goal.returns-in-Some
+returns-in-Some c = search (race-found, rules)
 
-pub overflow_cast-after : goal.overflow_cast-after
-overflow_cast-after c = search (next_fits, rules)
+pub overflow_add-after : goal.overflow_add-after
+overflow_add-after c = search (next_fits, rules)
 
 pub loop-x-preserved : goal.loop-x-preserved
 loop-x-preserved c = search (walking_on, rules)
 
 pub returns : goal.returns
 returns c = search (no_more, rules)
+
+pub returns-in_default : goal.returns-in_default
+returns-in_default c = no_more (walking_on c.loop-x.invariant c.next_with.result c.next_with.ensures c.in_default.is) c.count-x-end.result c.count-x-end.ensures (omega arith)

@@ -1,4 +1,4 @@
-use Rattle.std.proofs.Common.{rules}
+use Rattle.std.proofs.Common.{arith, rules}
 use Rattle.races.proofs.ListLaws.{trying_start, higher_fits, trying_lent, with_found, trying_on, with_no_more}
 use Rattle.races.proofs.next_with.Goals as goal
 
@@ -11,11 +11,14 @@ overflow_cast-higher c = search (higher_fits, rules)
 pub race_on-requires : goal.race_on-requires
 race_on-requires c = search (trying_lent, rules)
 
-pub returns-in-Length : goal.returns-in-Length
-returns-in-Length c = search (with_found, rules)
+pub returns-in-Some : goal.returns-in-Some
+returns-in-Some c = search (with_found, rules)
 
 pub loop-y-preserved : goal.loop-y-preserved
 loop-y-preserved c = search (trying_on, rules)
 
 pub returns : goal.returns
 returns c = search (with_no_more, rules)
+
+pub returns-in_default : goal.returns-in_default
+returns-in_default c = with_no_more (trying_on c.loop-y.invariant c.race_on.result c.race_on.ensures c.in_default.is) c.count-y-end.result c.count-y-end.ensures (omega arith)
