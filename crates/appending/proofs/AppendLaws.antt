@@ -4,10 +4,13 @@ use native.Mathlib.Omega.{arith}
 use native.Mathlib.Numerals.{add-one}
 use mathlib.Core.Path.{◌≡◌, refl, sym, ◌∙◌, ap}
 use mathlib.Core.List.{List, [], ◌∷◌, ◌++◌, append_assoc, append-nil}
-use lib.ListN.{length, take, drop, set, get_or, length-append, length-set}
-use lib.Seq.{drop-drop, take-suc-set, drop-set-lt, take-suc, take_all}
+use lib.ListN.{length, take, drop, set, length-append, length-set}
+use lib.Seq.{drop-drop, take-suc-set, drop-set-lt}
 use lib.Dec.{ltb}
 use borrow.Author.Tests.{ltb-true, ltb-false}
+use borrow.Rule.Slice.PartMut.{put_mid, same_len_mid}
+use Rattle.std.proofs.lemmas.Slice.{take-put_mid, drop-put_mid}
+use Rattle.std.proofs.Common.{length-take-le, length-drop}
 use mir.Syntax.{w16, w32}
 use mir.Val.{Fits}
 use Rattle.model.proofs.Tests.{by_cases}
@@ -40,22 +43,15 @@ appends_then {l} {m} {at} {out} {mid} {out'} {p} {r} a b = record {
     behind : drop r mid ≡ drop r out
     behind = rw (b.ends, ← drop-drop (length m) p mid, ← drop-drop (length m) p out, a.rest)
 
--- ---- a word, byte by byte
-
--- the first i bytes are copied
-pub record Copied (word : List ℕ) (at : ℕ) (out₀ out : List ℕ) (end i : ℕ) : Type 0 where
-  pub done : Appends (take i word) at out₀ out end
-  pub place : end ≡ at + i
-
-pub word-start : (word : List ℕ) (at : ℕ) (out : List ℕ) → at + length word ≤ length out → Copied word at out out at 0
-word-start word at out h = record { done = appends_nothing at out (omega arith); place = omega arith }
-
-module _ {word : List ℕ} {at : ℕ} {out₀ out : List ℕ} {end i : ℕ} (w : Copied word at out₀ out end i) where
-  pub word_on : i < length word → {out' : List ℕ} {r : ℕ} → Appends (get_or word i 0 ∷ []) end out out' r → Copied word at out₀ out' r (i + 1)
-  word_on h b = record { done = rw (add-one i, take-suc word i 0 h) (appends_then w.done b); place = let e = b.ends in let p = w.place in omega arith }
-
-  pub word_over : length word ≤ i → Appends word at out₀ out end
-  word_over h = rw (take_all i word h) at w.done
+-- a word laid over the bytes behind those in use
+pub appends_word : (word now : List ℕ) (at k : ℕ) (out : List ℕ) → now ≡ word → k ≡ length word → at + k ≤ length out → Appends word at out (put_mid at k out now) (at + length word)
+appends_word word now at k out e f h = rw e (record {
+  front = take-put_mid at k out word (at + length word) refl (omega arith);
+  rest = drop-put_mid at k out word (at + length word) (omega arith) (omega arith) (sym f);
+  ends = refl;
+  within = omega arith;
+  same = same_len_mid at k out word (omega (arith, length-take-le k (drop at out) (omega (arith, length-drop at out))));
+})
 
 -- ---- a number, digit by digit
 

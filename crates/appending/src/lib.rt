@@ -21,12 +21,8 @@ pub fn put_word(out: &mut [u8], at: usize, word: &[u8]) -> usize
     requires { at + length word.now ≤ length out.old }
     ensures { Appends word.now at out.old out.new result }
 {
-    let mut end = at;
-    let mut i = 0;
-    while i < word.len() {
-        end = put_byte(out, end, word[i]);
-        i += 1;
-    }
+    let end = at + word.len();
+    out[at..end].copy_from_slice(word);
     end
 }
 
