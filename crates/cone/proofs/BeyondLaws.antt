@@ -1,13 +1,15 @@
 -- The ways through `is_third` and `beyond`, and what it says of a pair's cone.
-use Prim.Native.Nat.{ℕ, ◌+◌, ◌≤◌, ◌<◌}
+use Prim.Native.Nat.{ℕ, ◌+◌, ◌<◌}
 use native.Mathlib.Omega.{arith}
-use mathlib.Core.Path.{◌≡◌, sym, ◌∙◌}
+use mathlib.Core.Path.{◌≡◌, sym, ◌∙◌, ap}
 use mathlib.Core.Logic.{◌≢◌}
-use mathlib.Core.Bool.{Bool, true, false, true≢false}
+use mathlib.Core.Bool.{Bool, true, false, true≢false, not, ◌&&◌}
 use mathlib.Core.List.{List}
-use lib.ListN.{get_or}
+use lib.ListN.{length, get_or}
 use lib.Dec.{eqb, ltb}
-use borrow.Author.Tests.{eqb-true, eqb-false, eq-eqb, ne_eqb, lt-ltb}
+use borrow.Author.Tests.{eqb-true, eqb-false, ne_eqb, lt-ltb}
+use Rattle.std.specs.List.{list_any, enumerate_from}
+use Rattle.std.proofs.lemmas.List.FromFn.{get_or-enumerate_from, length-enumerate_from}
 use Rattle.model.specs.Trace.{Trace, thread_of}
 use Rattle.model.specs.Lists.{pair}
 use Rattle.model.specs.Good.{Good, max_thread}
@@ -17,43 +19,30 @@ use Rattle.model.proofs.Tests.{by_cases, clash}
 use Rattle.model.proofs.Threads.{in_pair_a, in_pair_b}
 use Rattle.model.proofs.ConeEvents.{cone_valid}
 use Rattle.cone.specs.Tops.{is_third, Beyond, one_beyond, none_beyond, Tops}
-
--- ---- `is_third`
-
-module _ (tops : List ℕ) (m n c : ℕ) where
-  pub third_first : c ≡ m → false ≡ is_third tops m n c
-  unfolding is_third
-  third_first e = rw (eq-eqb c m e)
-
-  pub third_second : c ≢ m → c ≡ n → false ≡ is_third tops m n c
-  unfolding is_third
-  third_second d e = rw (ne_eqb c m d, eq-eqb c n e)
-
-  pub third_is : c ≢ m → c ≢ n → (x : ℕ) → x ≡ get_or tops c 0 → ltb 0 x ≡ is_third tops m n c
-  unfolding is_third
-  third_is d e x ex = rw (ne_eqb c m d, ne_eqb c n e, ex)
+use Rattle.cone.proofs.RoundLaws.{any_place, none_place}
 
 -- ---- `beyond`
 
--- no thread before thread k is such a one
-pub record NoThird (tops : List ℕ) (m n k : ℕ) : Type 0 where
-  pub none : (c : ℕ) → c < k → is_third tops m n c ≡ false
+-- a thread, and its top, that is neither m's nor n's
+abbrev pub third : ℕ → ℕ → ℕ × ℕ → Bool
+third m n p = not (eqb p.0 m) && (not (eqb p.0 n) && ltb 0 p.1)
 
-pub beyond_start : (tops : List ℕ) (m n : ℕ) → NoThird tops m n 0
-beyond_start tops m n = record { none = λ c l. absurd (omega arith) }
+entry : (tops : List ℕ) (c : ℕ) → c < length tops → get_or (enumerate_from 0 tops) c (0, 0) ≡ (c, get_or tops c 0)
+entry tops c h = get_or-enumerate_from 0 tops c (0, 0) h ∙ ap (λ (i : ℕ). (i, get_or tops c 0)) (omega arith)
 
-module _ {tops : List ℕ} {m n k : ℕ} (p : NoThird tops m n k) where
-  module _ (x : Bool) (e : x ≡ is_third tops m n k) where
-    pub beyond_one : k < max_thread + 1 → x ≡ true → Beyond tops m n true
-    beyond_one l h = one_beyond (let z : k ≤ max_thread = omega arith in z) (sym e ∙ h)
-
-    pub beyond_more : x ≡ false → NoThird tops m n (k + 1)
-    beyond_more h = record {
-      none = λ c l. by_cases (eqb c k) (λ q. rw (eqb-true c k q) (sym e ∙ h)) (λ q. let d = eqb-false c k q in p.none c (omega arith));
-    }
-
-  pub beyond_end : max_thread + 1 ≤ k → Beyond tops m n false
-  beyond_end h = none_beyond (λ c l. p.none c (omega arith))
+pub beyond_any : (tops : List ℕ) (m n : ℕ) → length tops ≡ max_thread + 1 → (b : Bool) → b ≡ list_any (third m n) (enumerate_from 0 tops) → Beyond tops m n b
+unfolding is_third
+beyond_any tops m n l true e =
+    let x = any_place (third m n) (0, 0) (enumerate_from 0 tops) e in
+    let i = x.0 in
+    let h : i < length tops = omega (arith, x.1, length-enumerate_from 0 tops) in
+    let z = entry tops i h in
+    one_beyond {c = i} (omega arith) (rw z at x.2)
+beyond_any tops m n l false e =
+    none_beyond (λ c u.
+    let h : c < length tops = omega arith in
+    let z = entry tops c h in
+    rw z at (none_place (third m n) (0, 0) (enumerate_from 0 tops) e c (omega (arith, length-enumerate_from 0 tops))))
 
 -- ---- the cone of a pair whose threads are m and n
 

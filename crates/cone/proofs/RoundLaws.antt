@@ -1,17 +1,22 @@
 -- The ways through a round, through the roots, and to the whole cone.
-use Prim.Native.Nat.{ℕ, ◌+◌, ◌-◌, ◌≤◌, ◌<◌}
+use Prim.Native.Nat.{ℕ, suc, ◌+◌, ◌-◌, ◌≤◌, ◌<◌}
 use native.Mathlib.Omega.{arith}
-use mathlib.Core.Path.{◌≡◌}
+use mathlib.Core.Path.{◌≡◌, sym, ◌∙◌, ap}
 use mathlib.Core.Logic.{◌≢◌, inl, inr}
 use mathlib.Core.Bool.{Bool, true, false, true≢false, false≢true}
-use mathlib.Core.List.{List}
-use lib.ListN.{length, get_or}
-use lib.Dec.{eqb}
-use borrow.Author.Tests.{eqb-true, eqb-false}
+use mathlib.Core.List.{List, [], ◌∷◌, reverse}
+use lib.ListN.{length, get_or, length-reverse}
+use lib.Dec.{eqb, ltb}
+use borrow.Author.Tests.{eqb-true, eqb-false, ltb-true, ltb-false}
+use Rattle.std.proofs.lemmas.List.{get_or-reverse}
+use Rattle.std.proofs.lemmas.Grind.{get_or_default_zero}
+use Rattle.std.specs.List.{list_any, zip}
+use Rattle.std.proofs.lemmas.List.Folds.{list_any_at}
+use Rattle.std.proofs.lemmas.Slice.Zip.{length-zip, get_or-zip}
 use Rattle.model.specs.Trace.{Trace, thread_of}
 use Rattle.model.specs.Good.{max_thread}
 use Rattle.model.specs.Cone.{Precedes, root}
-use Rattle.model.proofs.Tests.{by_cases}
+use Rattle.model.proofs.Tests.{by_cases, clash}
 use Rattle.model.proofs.ConeEvents.{precedes_valid}
 use Rattle.model.proofs.Lists.{get_d_mem}
 use Rattle.table.specs.Links.{previous, fork_of}
@@ -23,22 +28,35 @@ use Rattle.cone.proofs.BringLaws.{brought_kept, forked_kept}
 
 -- ---- `behind`
 
--- the threads before thread n are not
-pub record Level (n : ℕ) (done tops : List ℕ) : Type 0 where
-  pub level : (c : ℕ) → c < n → get_or tops c 0 ≤ get_or done c 0
+-- a list that passes somewhere, by place
+pub any_place : {X : Type 0} (p : X → Bool) (d : X) (l : List X) → true ≡ list_any p l → (i : ℕ) × (i < length l) × (p (get_or l i d) ≡ true)
+any_place p d [] e = absurd (true≢false e)
+any_place p d (x ∷ l) e =
+    by_cases (p x)
+    (λ h. (0, omega arith, h))
+    (λ h. let r = any_place p d l (rw h at e) in (suc r.0, omega (arith, r.1), r.2))
 
-pub level_start : (done tops : List ℕ) → Level 0 done tops
-level_start done tops = record { level = λ c l. absurd (omega arith) }
+pub none_place : {X : Type 0} (p : X → Bool) (d : X) (l : List X) → false ≡ list_any p l → (i : ℕ) → i < length l → p (get_or l i d) ≡ false
+none_place p d l e i h = by_cases (p (get_or l i d)) (λ t. clash (list_any_at p l i d h t) (sym e)) (λ f. f)
 
-module _ {n : ℕ} {done tops : List ℕ} (p : Level n done tops) where
-  pub level_one : n < max_thread + 1 → (x y : ℕ) → x ≡ get_or done n 0 → y ≡ get_or tops n 0 → x < y → Behind done tops true
-  level_one l x y ex ey h = one_behind (let z : n ≤ max_thread = omega arith in z) (omega arith)
+-- the first of two numbers is lower
+abbrev pub rises : ℕ × ℕ → Bool
+rises p = ltb p.0 p.1
 
-  pub level_more : (x y : ℕ) → x ≡ get_or done n 0 → y ≡ get_or tops n 0 → y ≤ x → Level (n + 1) done tops
-  level_more x y ex ey h = record { level = λ c l. by_cases (eqb c n) (λ q. let e = eqb-true c n q in rw e (omega arith)) (λ q. let ne = eqb-false c n q in p.level c (omega arith)) }
-
-  pub level_end : max_thread + 1 ≤ n → Behind done tops false
-  level_end h = none_behind (λ c l. p.level c (omega arith))
+pub behind_any : (done tops : List ℕ) → length done ≡ max_thread + 1 → length tops ≡ max_thread + 1 → (b : Bool) → b ≡ list_any rises (zip done tops) → Behind done tops b
+behind_any done tops ld lt true e =
+    let x = any_place rises (0, 0) (zip done tops) e in
+    let i = x.0 in
+    let h : i < max_thread + 1 = omega (arith, x.1, length-zip done tops) in
+    let z = get_or-zip done tops i (0, 0) (omega arith) (omega arith) in
+    let r : rises (get_or done i 0, get_or tops i 0) ≡ true = rw z at x.2 in
+    one_behind {c = i} (omega arith) (ltb-true _ _ r)
+behind_any done tops ld lt false e =
+    none_behind (λ c l.
+    let h : c < length (zip done tops) = omega (arith, length-zip done tops) in
+    let z = get_or-zip done tops c (0, 0) (omega arith) (omega arith) in
+    let r : rises (get_or done c 0, get_or tops c 0) ≡ false = rw z at (none_place rises (0, 0) (zip done tops) e c h) in
+    ltb-false _ _ r)
 
 pub behind_one : {done tops : List ℕ} {b : Bool} → Behind done tops b → b ≡ true → (c : ℕ) × (c ≤ max_thread) × (get_or done c 0 < get_or tops c 0)
 behind_one (one_behind {c = c} l h) e = (c, l, h)
@@ -129,23 +147,30 @@ seed_start g R i e = record { still = g.following; covers = λ n l h. absurd (om
 pub seed_root : {t : Trace} {R bars : List ℕ} → Bars t R bars → (r i : ℕ) → r ≡ get_or R i 0 → i < length R → IsRoot t bars r
 seed_root {R = R} b r i e h = let m = get_d_mem R i h in rw e (record { valid = b.valid (get_or R i 0) m; bar = b.bar (get_or R i 0) m })
 
-module _ {t : Trace} {bars R : List ℕ} {i : ℕ} {done tops : List ℕ} (p : Seeded t bars R i done tops) (u : 0 < i) where
-  pub seed_more : {r : ℕ} → r ≡ get_or R (i - 1) 0 → {done' tops' : List ℕ} {x : Bool} → Answer t bars (Started t bars r done' tops tops') x → x ≡ false → Seeded t bars R (i - 1) done' tops'
+-- the root behind k others from the last one back
+pub seed_turn : (R : List ℕ) (k x : ℕ) → (k < length (reverse R)) × (x ≡ get_or (reverse R) k x) → (k < length R) × (x ≡ get_or R (length R - (k + 1)) 0)
+seed_turn R k x h =
+    let l : k < length R = omega (arith, h.0, length-reverse R) in
+    let i : length R - 1 - k ≡ length R - (k + 1) = omega arith in
+    (l, h.1 ∙ get_or-reverse R k x l ∙ ap (λ (j : ℕ). get_or R j x) i ∙ get_or_default_zero R (length R - (k + 1)) x (omega arith))
+
+module _ {t : Trace} {bars R : List ℕ} {i : ℕ} {done tops : List ℕ} (p : Seeded t bars R i done tops) {j : ℕ} (u : i ≡ j + 1) where
+  pub seed_more : {r : ℕ} → r ≡ get_or R j 0 → {done' tops' : List ℕ} {x : Bool} → Answer t bars (Started t bars r done' tops tops') x → x ≡ false → Seeded t bars R j done' tops'
   seed_more {r} e {tops' = tops'} a ea =
       let f = goes a ea in
       record {
         still = f.still;
         covers = λ n l h.
-            by_cases (eqb n (i - 1))
-            (λ q. let z = eqb-true n (i - 1) q in rw (z, ← e) f.covers)
+            by_cases (eqb n j)
+            (λ q. let z = eqb-true n j q in rw (z, ← e) f.covers)
             (λ q.
-            let ne = eqb-false n (i - 1) q in
+            let ne = eqb-false n j q in
             let x = p.covers n (omega arith) h in
             let y = f.grown.up (thread_of t (previous t (get_or R n 0))) in omega arith);
         forked = λ n l h.
-            by_cases (eqb n (i - 1))
-            (λ q. let z = eqb-true n (i - 1) q in rw (z, ← e) f.forked)
-            (λ q. let ne = eqb-false n (i - 1) q in forked_kept f.grown (p.forked n (omega arith) h));
+            by_cases (eqb n j)
+            (λ q. let z = eqb-true n j q in rw (z, ← e) f.forked)
+            (λ q. let ne = eqb-false n j q in forked_kept f.grown (p.forked n (omega arith) h));
       }
 
 pub seed_end : {t : Trace} {bars R : List ℕ} {i : ℕ} {done tops : List ℕ} → Seeded t bars R i done tops → i ≤ 0 → Answer t bars (Seeded t bars R 0 done tops) false

@@ -9,7 +9,7 @@ use mathlib.Core.List.{List, [], ◌∷◌, ◌++◌, reverse, reverse_aux, reve
 use lib.ListN.{length, get_or, set, take, drop, length-set, drop_of_length-le}
 use lib.Seq.{take-suc-set, drop-cons, get_or-set_same, drop-set-lt}
 use lib.Dec.{eqb, leb}
-use mir.Syntax.{w16}
+use mir.Syntax.{w16, w64}
 use mir.Val.{Fits}
 use borrow.Author.Tests.{eqb-true, eqb-false, leb-true, le-leb, not-true, not-false}
 use Rattle.model.specs.Trace.{Trace, Valid, thread_of}
@@ -218,6 +218,9 @@ others_start g = record { room = g.room; low = omega arith; few = omega arith; i
 module _ {s tops : List ℕ} {m : ℕ} {start : List ℕ} (g : Splits s tops m start) {n : ℕ} (h : Highest tops (max_thread + 1) n) where
   low : n ≤ length (trace s)
   low = h.least (length (trace s)) (λ c. by_cases (eqb (get_or tops c 0) 0) (λ q. let z : get_or tops c 0 ≡ 0 = eqb-true _ _ q in omega arith) (λ q. (g.topped.valid c (eqb-false _ _ q)).bounded))
+
+  pub others_fit : Fits w64 (n + 1)
+  others_fit = let a = low in let b = g.links.good.size in record { fits = omega arith }
 
   module _ {k r : ℕ} {out : List ℕ} (p : Putting (trace s) m tops k r out) where
     pub others_valid : k ≤ n → Valid (trace s) k

@@ -13,24 +13,17 @@ ghost use Rattle.cone.specs.Following.{no_root, has_root, Bars, Within, Coming, 
 ghost use Rattle.cone.specs.Split.{Splits, Moved, Others, is_of, Putting, Highest};
 
 use limits::Thread;
+use table::wide;
 
 // The bar of a thread that no root is of: no event reaches it.
 const NO_ROOT: u16 = 65535;
-
-// The number in place i of a list.
-fn entry(list: &[u16], i: usize) -> usize
-    requires { i < length list.now }
-    ensures { result ≡ get_or list.now i 0 }
-{
-    table::wide(list[i])
-}
 
 // The number that a list by thread has for thread c.
 fn place(list: &[u16; Thread::COUNT], c: usize) -> usize
     requires { c ≤ max_thread }
     ensures { result ≡ get_or list.now c 0 }
 {
-    table::wide(list[c])
+    wide(list[c])
 }
 
 // Each root is the bar of its thread.
@@ -38,11 +31,9 @@ fn set_bars(table: &[u16], roots: &[u16], bars: &mut [u16; Thread::COUNT])
     requires { Rooted table.now roots.now × (bars.old ≡ replicate (max_thread + 1) no_root) }
     ensures { Bars (trace table.now) roots.now bars.new }
 {
-    let mut i = 0;
-    while i < roots.len() {
-        let c = table::thread_place(table, entry(roots, i));
-        bars[c] = roots[i];
-        i += 1;
+    for &r in roots {
+        let c = table::thread_place(table, wide(r));
+        bars[c] = r;
     }
 }
 
@@ -113,6 +104,7 @@ fn follow(
 {
     let exempt = has_root(table, bars, from);
     let mut k = from;
+    // A `while`: each step goes by the link of the event before, so there is no range or list to go over.
     while to < k {
         if bring(table, bars, k, exempt, tops) {
             return true;
@@ -149,14 +141,7 @@ fn catch_up(
 fn behind(done: &[u16; Thread::COUNT], tops: &[u16; Thread::COUNT]) -> bool
     ensures { Behind done.now tops.now result }
 {
-    let mut c = 0;
-    while c < Thread::COUNT {
-        if place(done, c) < place(tops, c) {
-            return true;
-        }
-        c += 1;
-    }
-    false
+    done.iter().zip(tops.iter()).any(|(d, top)| *d < *top)
 }
 
 // Each thread is followed from its top. Is a root in the cone then?
@@ -169,12 +154,10 @@ fn round(
     requires { Going table.now bars.now done.old tops.old }
     ensures { Answer (trace table.now) bars.now (Round (trace table.now) bars.now (max_thread + 1) done.old done.new tops.old tops.new) result }
 {
-    let mut c = 0;
-    while c < Thread::COUNT {
+    for c in 0..Thread::COUNT {
         if catch_up(table, bars, c, done, tops) {
             return true;
         }
-        c += 1;
     }
     false
 }
@@ -223,10 +206,8 @@ fn seed(
     requires { Going table.now bars.now done.old tops.old × Bars (trace table.now) roots.now bars.now }
     ensures { Answer (trace table.now) bars.now (Seeded (trace table.now) bars.now roots.now 0 done.new tops.new) result }
 {
-    let mut i = roots.len();
-    while 0 < i {
-        i -= 1;
-        if start(table, bars, entry(roots, i), done, tops) {
+    for &r in roots.iter().rev() {
+        if start(table, bars, wide(r), done, tops) {
             return true;
         }
     }
@@ -252,32 +233,14 @@ pub fn outside(table: &[u16], roots: &[u16], tops: &mut [u16; Thread::COUNT]) ->
     true
 }
 
-// Does the cone reach into thread c, which is neither m nor n?
-fn is_third(tops: &[u16; Thread::COUNT], m: usize, n: usize, c: usize) -> bool
-    requires { c ≤ max_thread }
-    ensures { result ≡ is_third tops.now m n c }
-{
-    if c == m {
-        return false;
-    }
-    if c == n {
-        return false;
-    }
-    0 < place(tops, c)
-}
-
 // Does it reach into any thread beside m and n?
 pub fn beyond(tops: &[u16; Thread::COUNT], m: u8, n: u8) -> bool
     ensures { Beyond tops.now m n result }
 {
-    let mut c = 0;
-    while c < Thread::COUNT {
-        if is_third(tops, m as usize, n as usize, c) {
-            return true;
-        }
-        c += 1;
-    }
-    false
+    let (m, n) = (usize::from(m), usize::from(n));
+    tops.iter()
+        .enumerate()
+        .any(|(c, top)| c != m && c != n && 0 < *top)
 }
 
 // Thread m's events up to its top, found from the last one back, so they are put at the end of out, in the trace's order. Gives the place of the first.
@@ -286,7 +249,8 @@ pub fn moved(table: &[u16], m: u8, tops: &[u16; Thread::COUNT], out: &mut [u16])
     ensures { Moved (trace table.now) m tops.now result out.new }
 {
     let mut r = out.len();
-    let mut k = place(tops, m as usize);
+    let mut k = place(tops, usize::from(m));
+    // A `while`: each step goes by the link of the event before, so there is no range or list to go over.
     while 0 < k {
         r -= 1;
         out[r] = k as u16;
@@ -301,10 +265,7 @@ fn is_other(table: &[u16], m: u8, tops: &[u16; Thread::COUNT], k: usize) -> bool
     ensures { result ≡ is_of (trace table.now) (all_but m) tops.now k }
 {
     let c = table::thread_place(table, k);
-    if c == m as usize {
-        return false;
-    }
-    k <= place(tops, c)
+    c != usize::from(m) && k <= place(tops, c)
 }
 
 // Puts event k, where it is such a one, at place r of out. Gives the next free place.
@@ -326,25 +287,13 @@ fn put(
     r + 1
 }
 
-// The higher of two numbers.
-fn higher(a: usize, b: usize) -> usize
-    ensures { result ≡ max a b }
-{
-    if a < b {
-        return b;
-    }
-    a
-}
-
 // The highest top.
 fn highest(tops: &[u16; Thread::COUNT]) -> usize
     ensures { Highest tops.now (max_thread + 1) result }
 {
     let mut n = 0;
-    let mut c = 0;
-    while c < Thread::COUNT {
-        n = higher(n, place(tops, c));
-        c += 1;
+    for &top in tops {
+        n = wide(top).max(n);
     }
     n
 }
@@ -354,12 +303,9 @@ pub fn others(table: &[u16], m: u8, tops: &[u16; Thread::COUNT], out: &mut [u16]
     requires { Splits table.now tops.now m out.old }
     ensures { Others (trace table.now) m tops.now result out.new }
 {
-    let n = highest(tops);
     let mut r = 0;
-    let mut k = 1;
-    while k <= n {
+    for k in 1..highest(tops) + 1 {
         r = put(table, m, tops, k, out, r);
-        k += 1;
     }
     r
 }

@@ -1,15 +1,10 @@
-use Rattle.std.proofs.Common.{rules}
-use Rattle.cone.proofs.BeyondLaws.{beyond_start, beyond_one, beyond_more, beyond_end}
+use Rattle.std.proofs.Common.{rules, tests}
+use Rattle.std.proofs.lemmas.Iterator.{YieldsList-from_slice}
+use Rattle.std.proofs.lemmas.Iterator.Consumers.{YieldsList-at, YieldsList-from_enumerate}
+use Rattle.std.proofs.lemmas.Iterator.Search.{any_from_yields_List}
+use Rattle.cone.proofs.BeyondLaws.{third, beyond_any}
 use Rattle.cone.proofs.beyond.Goals as goal
 
-pub loop-c-init : goal.loop-c-init
-loop-c-init c = search (beyond_start, rules)
-
-pub returns-then-is_third : goal.returns-then-is_third
-returns-then-is_third c = search (beyond_one, rules)
-
-pub loop-c-preserved : goal.loop-c-preserved
-loop-c-preserved c = search (beyond_more, rules)
-
 pub returns : goal.returns
-returns c = search (beyond_end, rules)
+returns c =
+    beyond_any _ c.args.m c.args.n c.told-tops _ (any_from_yields_List (third c.args.m c.args.n) c.any.new.self _ _ c.any.ensures.ran (YieldsList-from_enumerate (YieldsList-at c.enumerate.ensures.source (YieldsList-from_slice c.args.tops.now c.iter.ensures.rest)) c.enumerate.ensures.count) (λ x b q k. search (rules, tests)))

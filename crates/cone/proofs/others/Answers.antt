@@ -1,5 +1,5 @@
 use Rattle.std.proofs.Common.{rules}
-use Rattle.cone.proofs.SplitLaws.{others_start, others_valid, others_end}
+use Rattle.cone.proofs.SplitLaws.{others_start, others_valid, others_end, others_fit}
 use Rattle.cone.proofs.others.Goals as goal
 
 pub loop-k-init : goal.loop-k-init
@@ -10,3 +10,6 @@ put-r-requires c = search (others_valid, rules)
 
 pub returns : goal.returns
 returns c = search (others_end, rules)
+
+pub overflow_add-k-end : goal.overflow_add-k-end
+overflow_add-k-end c = search (others_fit, rules)

@@ -1,11 +1,6 @@
-use Prim.Native.Nat.{◌+◌, ◌-◌}
-use Rattle.model.specs.Good.{max_thread}
 use Rattle.table.specs.Table.{trace}
 use Rattle.cone.specs.Following.{Round}
 use Rattle.cone.proofs.round.Given as goal
 
 abbrev pub invariant-loop-c : goal.invariant-loop-c
 invariant-loop-c l = Round (trace l.table) l.bars l.c l.initial.done l.done l.initial.tops l.tops
-
-abbrev pub decreases-loop-c : goal.decreases-loop-c
-decreases-loop-c l = max_thread + 1 - l.c
