@@ -4,18 +4,16 @@ use native.Mathlib.Omega.{arith}
 use native.Mathlib.Numerals.{add-one}
 use native.Mathlib.Decide.{dec_lt, ℕ_discrete}
 use mathlib.Core.Path.{◌≡◌, refl, sym, ◌∙◌, ap}
-use mathlib.Core.Bool.{Bool, true, false, not}
 use mathlib.Core.Option.{Option, none, some, none-ne-some, some-injective}
 use mathlib.Core.List.{List}
 use mir.Val.{Fits}
 use mir.Syntax.{w16}
 use lib.ListN.{length}
-use borrow.Author.Tests.{not-true, not-false}
 use Rattle.std.specs.Prelude.{Option as RustOption, None, Some}
 use Rattle.model.specs.Trace.{Trace}
 use Rattle.model.specs.Lists.{pair}
 use Rattle.model.specs.Listing.{Race, RaceOf, pair_of, After}
-use Rattle.decision.specs.Decision.{witness, is_conflicting, next_race}
+use Rattle.decision.specs.Decision.{is_conflicting, next_race}
 use Rattle.model.proofs.Tests.{false_test, by_cases}
 use Rattle.decision.proofs.OrderExact.{by_last}
 use Rattle.decision.proofs.ListingExact.{conflicting_exactly, witness_exactly, next_exactly, next-none}
@@ -100,21 +98,6 @@ module _ (t : Trace) (w : WellFormed t) where
     next_over h =
         (next-none t w a b).1
         (λ x r f. let p = r.conflicting.first.bounded in ⊎_elim (λ q. omega arith) (λ q. let e = q.0 in omega arith) f)
-
--- ---- one pair
-
-module _ (t : Trace) (a b : ℕ) (c : Bool) (ec : c ≡ is_conflicting t a b) where
-  pub no-pair : not c ≡ true → (list : List ℕ) → Shows (witness_of t a b) list list None
-  unfolding witness_of
-  no-pair w list = rw (sym ec ∙ not-true c w) (record { says = refl; wrote = refl })
-
-  module _ (w : not c ≡ false) where
-    pub pair_there : is_conflicting t a b ≡ true
-    pair_there = sym ec ∙ not-false c w
-
-    pub pair_is : {list list' : List ℕ} {r : RustOption ℕ} → Shows (witness t a b) list list' r → Shows (witness_of t a b) list list' r
-    unfolding witness_of
-    pair_is s = rw (sym ec ∙ not-false c w) s
 
 -- the lent list is as it was
 pub record Same (list₀ list : List ℕ) : Type 0 where

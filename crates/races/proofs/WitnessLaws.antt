@@ -4,11 +4,11 @@ use native.Mathlib.Omega.{arith}
 use mathlib.Core.Path.{◌≡◌, refl, sym, ◌∙◌, ap}
 use mathlib.Core.Logic.{◌≢◌, ◌⊎◌, inl, inr, ⊎_elim}
 use mathlib.Core.Bool.{Bool, true, false, not}
-use mathlib.Core.List.{List, ◌++◌}
+use mathlib.Core.List.{List}
 use lib.ListN.{length, take, drop}
 use lib.Seq.{length-take-le}
 use borrow.Author.Tests.{not-true, not-false}
-use Rattle.std.specs.Prelude.{Option as RustOption, None, Some}
+use Rattle.std.specs.Prelude.{Option as RustOption, None}
 use Rattle.model.specs.Trace.{Trace, Valid, join, thread_of, kind_of}
 use Rattle.model.specs.Lists.{◌∈◌, in_front, own, only, just, all_but, pair}
 use Rattle.model.specs.Observed.{observed}
@@ -20,7 +20,6 @@ use Rattle.model.proofs.Lists.{mem_only, only_mem, increasing_keep, front_taken}
 use Rattle.model.proofs.Threads.{for_pair, conflicting_apart}
 use Rattle.model.proofs.ConeEvents.{cone_valid}
 use Rattle.decision.specs.Rounds.{cone}
-use Rattle.decision.specs.Check.{is_correct}
 use Rattle.decision.specs.Stairs.{climb, least_merge}
 use Rattle.decision.specs.Decision.{witness, is_conflicting, shown_for}
 use Rattle.decision.proofs.ConeExact.{cone_exactly, cone_increasing}
@@ -61,17 +60,6 @@ module _ {s : List ℕ} {m : ℕ} {P Q ends low : List ℕ} (e : Ended s m P Q e
 
     pub merge_done : (out : List ℕ) {out' : List ℕ} → out' ≡ in_front (climb (at need) P Q) out → out' ≡ in_front (least_merge (trace s) P Q) out
     merge_done out q = q ∙ ap (λ (l : List ℕ). in_front l out) merged
-
--- ---- `show`
-
-module _ {s list : List ℕ} (merged : List ℕ) (q : WitnessRoom s list) (f : length merged ≤ length (trace s)) (b : Bool) (eb : b ≡ is_correct (trace s) merged) where
-  pub show_none : not b ≡ true → Shows (if_correct (trace s) merged) list list None
-  unfolding if_correct
-  show_none w = rw (sym eb ∙ not-true b w) (record { says = refl; wrote = refl })
-
-  pub show_some : not b ≡ false → {front : List ℕ} → front ≡ merged → Shows (if_correct (trace s) merged) list (front ++ drop (length merged) list) (Some (length merged))
-  unfolding if_correct in_front
-  show_some w e = rw (sym eb ∙ not-false b w, e) (record { says = refl; wrote = refl })
 
 -- ---- `join`
 

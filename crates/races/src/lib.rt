@@ -35,6 +35,7 @@ fn merge(table: &[u16], m: u8, tops: &[u16; Thread::COUNT], p: &[u16], q: &[u16]
 }
 
 // The merge is the witness where it is a correct reordering: the least staircase has what must stand before, and this asks for what must not.
+#[tactic(auto, unfolding(crate::specs::Engine::if_correct, model::specs::Lists::in_front))]
 fn show(table: &[u16], merged: &[u16], list: &mut [u16]) -> Option<u16>
     requires { WitnessRoom table.now list.old × (length merged.now ≤ length (trace table.now)) }
     ensures { Shows (if_correct (trace table.now) merged.now) list.old list.new result }
@@ -91,6 +92,7 @@ pub fn witness(table: &[u16], a: u16, b: u16, list: &mut [u16]) -> Option<u16>
 }
 
 // The witness of two numbers, where they are a conflicting pair.
+#[tactic(auto, unfolding(crate::specs::Next::witness_of))]
 fn race_on(table: &[u16], a: u16, b: u16, list: &mut [u16]) -> Option<u16>
     requires { WitnessRoom table.now list.old }
     ensures { Shows (witness_of (trace table.now) a b) list.old list.new result }
