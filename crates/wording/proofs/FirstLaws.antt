@@ -4,14 +4,18 @@ use native.Mathlib.Omega.{arith}
 use native.Mathlib.Numerals.{add-one}
 use mathlib.Core.Path.{◌≡◌, refl}
 use mathlib.Core.Logic.{◌≢◌}
-use mathlib.Core.Bool.{false}
+use mathlib.Core.Bool.{false, cond}
 use mathlib.Core.List.{List, [], ◌∷◌, ◌++◌, Memᴰ}
-use lib.ListN.{length, get_or, take, drop, length-drop, drop_of_length-le}
-use lib.Seq.{drop-cons, split_at, take_all}
-use lib.Dec.{eqb}
-use borrow.Author.Tests.{eq-eqb, ne_eqb, eqb-true}
+use lib.ListN.{length, get_or, take, drop, length-drop}
+use lib.Seq.{split_at, take_all}
+use lib.Dec.{eqb, ltb}
+use borrow.Author.Tests.{eq-eqb, ne_eqb, eqb-true, ltb-false, lt-ltb}
 use Rattle.model.proofs.Tests.{by_cases}
 use Rattle.wording.specs.Parts.{first_at}
+use Rattle.std.specs.Prelude.{Option, Some, None, unwrap_or}
+use Rattle.std.specs.List.{position_or_len, list_any}
+use Rattle.std.proofs.lemmas.List.Recursion.{is_position_or_len}
+use Rattle.std.proofs.lemmas.Bool.Decides.{nat_tests}
 
 -- what the code lends of a list from a place on
 abbrev pub from : ℕ → List ℕ → List ℕ
@@ -20,20 +24,27 @@ from i s = take (length s - i) (drop i s)
 pub from-drop : (i : ℕ) (s : List ℕ) → from i s ≡ drop i s
 from-drop i s = take_all (length s - i) (drop i s) (let h = length-drop i s in omega arith)
 
--- ---- the loop that looks for a byte
+-- ---- the search for a byte
 
-module _ (s : List ℕ) (stop i : ℕ) where
-  pub first_found : first_at stop s ≡ i + first_at stop (drop i s) → i < length s → get_or s i 0 ≡ stop → i ≡ first_at stop s
-  first_found inv h e = let d = drop-cons s i 0 h in let f : first_at stop (drop i s) ≡ 0 = rw (d, eq-eqb _ _ e) in omega arith
+pub first_position : (stop : ℕ) (s : List ℕ) → first_at stop s ≡ position_or_len (λ b. eqb b stop) s
+first_position stop = is_position_or_len (first_at stop) (λ b. eqb b stop) refl (λ b s. grind arith)
 
-  pub first_on : first_at stop s ≡ i + first_at stop (drop i s) → i < length s → (get_or s i 0 ≡ stop → ⊥) → first_at stop s ≡ (i + 1) + first_at stop (drop (i + 1) s)
-  first_on inv h ne =
-      let d = drop-cons s i 0 h in
-      let f : first_at stop (drop i s) ≡ suc (first_at stop (drop (suc i) s)) = rw (d, ne_eqb _ _ ne) in
-      rw (add-one i) (omega arith)
+pub first_or_end : (stop : ℕ) (s : List ℕ) (found : Option ℕ)
+    → found ≡ cond (ltb (position_or_len (λ b. eqb b stop) s) (length s)) (Some (position_or_len (λ b. eqb b stop) s)) None
+    → unwrap_or found (length s) ≡ first_at stop s
+first_or_end stop s found e =
+    let q = first_position stop s in
+    let l = first_least stop s in
+    by_cases (ltb (first_at stop s) (length s)) (λ h. rw (e, ← q, h) refl)
+    (λ h. let g = ltb-false _ _ h in rw (e, ← q, h) (omega arith))
+  where
+    first_least : (stop : ℕ) (s : List ℕ) → first_at stop s ≤ length s
+    first_least stop [] = omega arith
+    first_least stop (b ∷ s) = let h = first_least stop s in by_cases (eqb b stop) (λ e. rw e (omega arith)) (λ e. rw e (omega arith))
 
-  pub first-none : first_at stop s ≡ i + first_at stop (drop i s) → length s ≤ i → i ≡ first_at stop s
-  first-none inv h = let d = drop_of_length-le s h in let f : first_at stop (drop i s) ≡ 0 = rw d in omega arith
+pub has_any : (b : ℕ) (s : List ℕ) → list_any (λ x. eqb x b) s ≡ ltb (first_at b s) (length s)
+has_any b [] = refl
+has_any b (c ∷ s) = by_cases (eqb c b) (λ e. rw (e, lt-ltb 0 (suc (length s)) (omega arith)) refl) (λ e. rw (e, has_any b s) (grind (arith, nat_tests)))
 
 -- ---- what stands before the first place, and after it
 

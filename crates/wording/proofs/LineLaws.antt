@@ -17,9 +17,9 @@ use Rattle.appending.proofs.DecimalLaws.{decimal_value, decimal_in}
 use Rattle.wording.specs.Lines.{read_word, write_word, acquire_word, release_word, fork_word, join_word, kind_word, note_line, IsNote, event_line, IsEvent, Reads, note, event, bad}
 use Rattle.wording.specs.Parts.{SaysNote, first_at, ReadsNumber, ReadsKind, kind, no_kind, IsAction, ReadsAction, action, no_action, ReadsEvent, is_event, no-event}
 use Rattle.wording.specs.declared.Line.{Line}
-use Rattle.wording.specs.declared.Line.TheVariants.{Bad, Note, Event as EventOf}
-use Rattle.wording.specs.declared.Number.{Number}
-use Rattle.wording.specs.declared.Number.TheVariants.{Absent, Value}
+use Rattle.std.specs.Prelude.{Option, Some, None, Decides}
+use Rattle.std.proofs.lemmas.Option.{none-some, same_Some}
+use Rattle.wording.specs.declared.Line.TheVariants.{Note, Event as EventOf}
 use Rattle.wording.proofs.FirstLaws.{from, from-drop, first-append, first_split}
 use Rattle.wording.proofs.NoteLaws.{says_note, says_none}
 use Rattle.wording.proofs.NumberLaws.{read_value, read_absent, decimal-whole}
@@ -40,25 +40,18 @@ each_word P pr pw pa pe pf pj k =
     (λ d.
     by_cases (eqb k fork) (λ e. rw (a, b, c, d, e) pf) (λ e. rw (a, b, c, d, e) pj)))))
 
--- the test of two slices says whether they are the same
-abbrev pub Same : Bool → List ℕ → List ℕ → Type 0
-Same b s t = (b ≡ true → s ≡ t) × (s ≡ t → b ≡ true)
-
-pub kind_is : (k : ℕ) (w : List ℕ) (a : Bool) → read ≤ k → k ≤ join → (a ≡ true → w ≡ kind_word k) → a ≡ true → ReadsKind w k
-kind_is k w a least most f h = kind least most (f h)
-
-pub word-other : {w v : List ℕ} {a : Bool} → Same a w v → a ≡ false → w ≢ v
+pub word-other : {w v : List ℕ} {a : Bool} → Decides a (w ≡ v) → a ≡ false → w ≢ v
 word-other f n e = clash (f.1 e) n
 
-pub kind_other : (w : List ℕ) → w ≢ read_word → w ≢ write_word → w ≢ acquire_word → w ≢ release_word → w ≢ fork_word → w ≢ join_word → ReadsKind w 0
+pub kind_other : (w : List ℕ) → w ≢ read_word → w ≢ write_word → w ≢ acquire_word → w ≢ release_word → w ≢ fork_word → w ≢ join_word → ReadsKind w None
 kind_other w nr nw na ne nf nj = no_kind (λ k least most. each_word (λ v. w ≢ v) nr nw na ne nf nj k)
 
-pub read_kind : {s : List ℕ} {k : ℕ} → ReadsKind s k → (k ≡ 0 → ⊥) → (read ≤ k) × (k ≤ join) × (s ≡ kind_word k)
-read_kind (kind l m e) ne = (l, m, e)
-read_kind (no_kind f) ne = absurd (ne refl)
+pub read_kind : {s : List ℕ} {r : Option ℕ} → ReadsKind s r → (k : ℕ) → r ≡ Some k → (read ≤ k) × (k ≤ join) × (s ≡ kind_word k)
+read_kind (kind {k = j} l m e) k q = let z = same_Some j k q in (omega arith, omega arith, rw z at e)
+read_kind (no_kind f) k q = absurd (none-some k q)
 
-pub read-no_kind : {s : List ℕ} {k : ℕ} → ReadsKind s k → k ≡ 0 → (j : ℕ) → read ≤ j → j ≤ join → s ≢ kind_word j
-read-no_kind (kind l m e) z = absurd (omega arith)
+pub read-no_kind : {s : List ℕ} {r : Option ℕ} → ReadsKind s r → r ≡ None → (j : ℕ) → read ≤ j → j ≤ join → s ≢ kind_word j
+read-no_kind (kind {k} l m e) z = absurd (none-some k (sym z))
 read-no_kind (no_kind f) z = f
 
 -- no word has a space
@@ -101,27 +94,27 @@ same_number m n e = sym (decimal_value m) ∙ ap (value_from 0) e ∙ decimal_va
 -- ---- an event line from its kind on
 
 module _ (t : ℕ) (s : List ℕ) (i : ℕ) (at-space : i ≡ first_at 32 s) where
-  pub action_short : i ≡ length s → ReadsAction t s Bad
+  pub action_short : i ≡ length s → ReadsAction t s None
   action_short e = no_action (λ k o a. let w = space_within s i at-space (kind_word k) (decimal o) (word-whole k) a.these in omega arith)
 
-  module _ (k : ℕ) (x : ReadsKind (take i s) k) where
-    pub action_kind : k ≡ 0 → ReadsAction t s Bad
+  module _ (v : Option ℕ) (x : ReadsKind (take i s) v) where
+    pub action_kind : v ≡ None → ReadsAction t s None
     action_kind z = no_action (λ j o a. read-no_kind x z j a.least a.most (before_space s i at-space (kind_word j) (decimal o) (word-whole j) a.these))
 
-    module _ (known : k ≡ 0 → ⊥) (n : Number) (y : ReadsNumber (from (i + 1) s) n) where
-      pub action_number : n ≡ Absent → ReadsAction t s Bad
+    module _ (k : ℕ) (known : v ≡ Some k) (n : Option ℕ) (y : ReadsNumber (from (i + 1) s) n) where
+      pub action_number : n ≡ None → ReadsAction t s None
       action_number z = no_action (λ j o a. read_absent y z o a.object_fits (from-drop (i + 1) s ∙ after_space s i at-space (kind_word j) (decimal o) (word-whole j) a.these))
 
-      pub action_good : (i ≡ length s → ⊥) → i ≤ length s → (o : ℕ) → n ≡ Value o → ReadsAction t s (EventOf t k o)
+      pub action_good : (i ≡ length s → ⊥) → i ≤ length s → (o : ℕ) → n ≡ Some o → ReadsAction t s (Some (EventOf t k o))
       action_good ne h o e =
-          let r = read_kind x known in
+          let r = read_kind x k known in
           let v = read_value y o e in
           let p = first_split 32 s i at-space (omega arith) in
           action (record { least = r.0; most = r.1; object_fits = v.0; these = p ∙ (rw (r.2, ← from-drop (i + 1) s, v.1)) })
 
 -- what an answer says
 module _ {t : ℕ} {s : List ℕ} where
-  action_means : {r : Line} → ReadsAction t s r → (p : List ℕ) → p ≡ decimal t → t < 256 → (line : List ℕ) → line ≡ p ++ (32 ∷ s) → ((e : Event) → IsEvent line e → (decimal e.thread ≡ p) × IsAction s e.kind e.object) → ReadsEvent line r
+  action_means : {r : Option Line} → ReadsAction t s r → (p : List ℕ) → p ≡ decimal t → t < 256 → (line : List ℕ) → line ≡ p ++ (32 ∷ s) → ((e : Event) → IsEvent line e → (decimal e.thread ≡ p) × IsAction s e.kind e.object) → ReadsEvent line r
   unfolding event_line
   action_means (action {k} {o} a) p e h line q back = is_event (record { in_range = record { thread = h; least = a.least; most = a.most; object = a.object_fits }; these = q ∙ rw (e, a.these) })
   action_means (no_action f) p e h line q back = no-event (λ e i. f e.kind e.object (back e i).1)
@@ -129,7 +122,7 @@ module _ {t : ℕ} {s : List ℕ} where
 -- ---- an event line
 
 module _ (line : List ℕ) (i : ℕ) (at-space : i ≡ first_at 32 line) where
-  pub event_short : i ≡ length line → ReadsEvent line Bad
+  pub event_short : i ≡ length line → ReadsEvent line None
   unfolding event_line
   event_short h =
       no-event (λ e g.
@@ -151,12 +144,12 @@ module _ (line : List ℕ) (i : ℕ) (at-space : i ≡ first_at 32 line) where
           these = after_space line i at-space (decimal e.thread) (kind_word e.kind ++ (32 ∷ decimal e.object)) (decimal-whole e.thread) g.these;
         }
 
-  module _ (n : Number) (y : ReadsNumber (take i line) n) where
-    pub event_number_lem : n ≡ Absent → ReadsEvent line Bad
+  module _ (n : Option ℕ) (y : ReadsNumber (take i line) n) where
+    pub event_number_lem : n ≡ None → ReadsEvent line None
     event_number_lem z = no-event (λ e g. let h = g.in_range.thread in read_absent y z e.thread (omega arith) (event_thread e g))
 
-    module _ (t : ℕ) (is : n ≡ Value t) where
-      pub event_large : 255 < t → ReadsEvent line Bad
+    module _ (t : ℕ) (is : n ≡ Some t) where
+      pub event_large : 255 < t → ReadsEvent line None
       event_large l =
           no-event (λ e g.
           let v = read_value y t is in
@@ -165,22 +158,22 @@ module _ (line : List ℕ) (i : ℕ) (at-space : i ≡ first_at 32 line) where
           let h = g.in_range.thread in
           omega arith)
 
-      pub event_read : (i ≡ length line → ⊥) → i ≤ length line → t ≤ 255 → (r : Line) → ReadsAction t (from (i + 1) line) r → ReadsEvent line r
-      event_read ne h l r a =
+      pub event_read : (i ≡ length line → ⊥) → i ≤ length line → (u : ℕ) → u ≡ t → t < 256 → (r : Option Line) → ReadsAction u (from (i + 1) line) r → ReadsEvent line r
+      event_read ne h u same l r a =
           let v = read_value y t is in
-          let b : ReadsAction t (drop (i + 1) line) r = rw (from-drop (i + 1) line) at a in
+          let b : ReadsAction t (drop (i + 1) line) r = rw (same, from-drop (i + 1) line) at a in
           action_means b (take i line) v.1 (omega arith) line (first_split 32 line i at-space (omega arith)) (λ e g. (sym (event_thread e g), event_action e g))
 
 -- ---- a line
 
 module _ (line : List ℕ) (b : Bool) (s : SaysNote line b) where
-  pub line_note : b ≡ true → Reads line Note
+  pub line_note : b ≡ true → Reads line (Some Note)
   line_note e = note (says_note s e)
 
-  pub line_other : b ≡ false → (r : Line) → ReadsEvent line r → Reads line r
+  pub line_other : b ≡ false → (r : Option Line) → ReadsEvent line r → Reads line r
   line_other e r x = go (says_none s e) x
     where
-      go : {r : Line} → ¬ IsNote line → ReadsEvent line r → Reads line r
+      go : {r : Option Line} → ¬ IsNote line → ReadsEvent line r → Reads line r
       go f (is_event i) = event i
       go f (no-event g) = bad f g
 
@@ -199,17 +192,22 @@ module _ {line : List ℕ} where
   pub event_no_note : (e : Event) → IsEvent line e → ¬ IsNote line
   event_no_note e i n = event_apart e n.text (sym i.these ∙ n.these)
 
-  pub reads_note : {r : Line} → Reads line r → r ≡ Note → IsNote line
+  pub reads_note : {r : Option Line} → Reads line r → r ≡ Some Note → IsNote line
   reads_note (note n) e = n
-  reads_note (event i) e = let o : ◌≡◌ {A = ℕ} 0 1 = cc in absurd (omega arith)
-  reads_note (bad f g) e = let o : ◌≡◌ {A = ℕ} 0 1 = cc in absurd (omega arith)
+  reads_note (event {t} {k} {o} i) e = let z = same_Some (EventOf t k o) Note e in let o : ◌≡◌ {A = ℕ} 0 1 = cc in absurd (omega arith)
+  reads_note (bad f g) e = absurd (none-some Note e)
 
-  pub reads_event : {r : Line} → Reads line r → (t k o : ℕ) → r ≡ EventOf t k o → IsEvent line (record { thread = t; kind = k; object = o })
-  reads_event (note n) t k o e = let z : ◌≡◌ {A = ℕ} 0 1 = cc in absurd (omega arith)
-  reads_event (event {t = a} {k = b} {o = c} i) t k o e = let p : a ≡ t = cc in let q : b ≡ k = cc in let r : c ≡ o = cc in rw (p, q, r) at i
-  reads_event (bad f g) t k o e = let z : ◌≡◌ {A = ℕ} 0 1 = cc in absurd (omega arith)
+  pub reads_event : {r : Option Line} → Reads line r → (t k o : ℕ) → r ≡ Some (EventOf t k o) → IsEvent line (record { thread = t; kind = k; object = o })
+  reads_event (note n) t k o e = let z = same_Some Note (EventOf t k o) e in let o : ◌≡◌ {A = ℕ} 0 1 = cc in absurd (omega arith)
+  reads_event (event {t = a} {k = b} {o = c} i) t k o e =
+      let z = same_Some (EventOf a b c) (EventOf t k o) e in
+      let p : a ≡ t = cc in
+      let q : b ≡ k = cc in
+      let r : c ≡ o = cc in
+      rw (p, q, r) at i
+  reads_event (bad f g) t k o e = absurd (none-some (EventOf t k o) e)
 
-  pub reads_bad : {r : Line} → Reads line r → r ≡ Bad → (¬ IsNote line) × ((e : Event) → ¬ IsEvent line e)
-  reads_bad (note n) e = let z : ◌≡◌ {A = ℕ} 0 1 = cc in absurd (omega arith)
-  reads_bad (event i) e = let z : ◌≡◌ {A = ℕ} 0 1 = cc in absurd (omega arith)
+  pub reads_bad : {r : Option Line} → Reads line r → r ≡ None → (¬ IsNote line) × ((e : Event) → ¬ IsEvent line e)
+  reads_bad (note n) e = absurd (none-some Note (sym e))
+  reads_bad (event {t} {k} {o} i) e = absurd (none-some (EventOf t k o) (sym e))
   reads_bad (bad f g) e = (f, g)

@@ -11,6 +11,7 @@ use Rattle.model.proofs.Lists.{mem_keep, up_to_mem}
 use Rattle.appending.specs.Decimal.{decimal}
 use Rattle.wording.specs.Lines.{kind_word, event_line, InRange, Reads, note, event, bad}
 use Rattle.wording.specs.Reasons.{same}
+use Rattle.std.specs.Prelude.{Option, Some}
 use Rattle.wording.specs.declared.Line.{Line}
 use Rattle.wording.specs.declared.Line.TheVariants.{Event as EventOf}
 use Rattle.wording.proofs.NumberLaws.{decimal-whole}
@@ -25,7 +26,7 @@ abbrev is_back : ℕ → Bool
 is_back k = eqb (kind_by (kind_word k)) k
 
 all_back : keep is_back (up_to join) ≡ up_to join
-unfolding kind_word same
+unfolding kind_word
 all_back = refl
 
 word_kind : (k : ℕ) → read ≤ k → k ≤ join → kind_by (kind_word k) ≡ k
@@ -45,14 +46,14 @@ event_one e f r s q =
     let same : ◌≡◌ {A = Event} (record { thread = e.thread; kind = e.kind; object = e.object }) (record { thread = f.thread; kind = f.kind; object = f.object }) = rw (t, k, o) in
     same
 
-pub line_one : {line : List ℕ} {r s : Line} → Reads line r → Reads line s → r ≡ s
+pub line_one : {line : List ℕ} {r s : Option Line} → Reads line r → Reads line s → r ≡ s
 line_one (note n) (note m) = refl
 line_one (note n) (event {t} {k} {o} i) = absurd (event_no_note (record { thread = t; kind = k; object = o }) i n)
 line_one (note n) (bad f g) = absurd (f n)
 line_one (event {t} {k} {o} i) (note n) = absurd (event_no_note (record { thread = t; kind = k; object = o }) i n)
 line_one (event {t = t} {k = k} {o = o} i) (event {t = t'} {k = k'} {o = o'} j) =
     let e = event_one (record { thread = t; kind = k; object = o }) (record { thread = t'; kind = k'; object = o' }) i.in_range j.in_range (sym i.these ∙ j.these) in
-    ap (λ (e : Event). EventOf e.thread e.kind e.object) e
+    ap (λ (e : Event). Some (EventOf e.thread e.kind e.object)) e
 line_one (event {t} {k} {o} i) (bad f g) = absurd (g (record { thread = t; kind = k; object = o }) i)
 line_one (bad f g) (note n) = absurd (f n)
 line_one (bad f g) (event {t} {k} {o} i) = absurd (g (record { thread = t; kind = k; object = o }) i)

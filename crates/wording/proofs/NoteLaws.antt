@@ -1,37 +1,23 @@
 -- Note lines, and the test of two lists of bytes.
-use Prim.Native.Nat.{ℕ, ◌≤◌, ◌<◌}
+use Prim.Native.Nat.{ℕ, ◌≤◌}
 use native.Mathlib.Omega.{arith}
 use mathlib.Core.Path.{◌≡◌, refl, sym, ◌∙◌, ap}
-use mathlib.Core.Bool.{Bool, true, false, not, true≢false, false≢true}
-use mathlib.Core.List.{List, [], ◌∷◌, ◌++◌}
+use mathlib.Core.Bool.{Bool, true, false, true≢false}
+use mathlib.Core.List.{List, ◌++◌}
 use lib.ListN.{length, take, drop, take-append-drop}
 use lib.Seq.{take_all}
-use lib.Dec.{eqb, ltb}
-use borrow.Author.Tests.{eq-eqb, eqb-true, ltb-true, ltb-false, not-true, not-false}
+use lib.Dec.{ltb}
+use borrow.Author.Tests.{ltb-true, ltb-false}
 use Rattle.model.proofs.Tests.{by_cases, both, true_both, clash, false_test}
 use Rattle.format.specs.Readable.{is_readable}
 use Rattle.format.proofs.ReadableExact.{readable_true, true_readable}
 use Rattle.wording.specs.Lines.{note_word, note_line, IsNote}
 use Rattle.wording.specs.Parts.{SaysNote, is_note, no_note}
-use Rattle.wording.specs.Reasons.{same, begins_note, is_note_line}
+use Rattle.std.specs.Prelude.{bytes_eq}
+use Rattle.std.proofs.lemmas.Slice.Eq.{bytes_eq-Decides}
+use Rattle.std.proofs.lemmas.Bool.Decides.{same_from_decides}
+use Rattle.wording.specs.Reasons.{begins_note, is_note_line}
 use Rattle.wording.proofs.FirstLaws.{from, from-drop}
-
--- ---- the same bytes
-
-pub same_true : (s t : List ℕ) → same s t ≡ true → s ≡ t
-unfolding same
-same_true [] [] e = refl
-same_true [] (c ∷ t) e = absurd (false≢true e)
-same_true (b ∷ s) [] e = absurd (false≢true e)
-same_true (b ∷ s) (c ∷ t) e = let p = both (eqb b c) (same s t) e in let q = eqb-true b c p.0 in let r = same_true s t p.1 in cc
-
-pub same_self : (s : List ℕ) → same s s ≡ true
-unfolding same
-same_self [] = refl
-same_self (b ∷ s) = true_both (eq-eqb b b refl) (same_self s)
-
-pub true_same : (s t : List ℕ) → s ≡ t → same s t ≡ true
-true_same s t e = rw e (same_self t)
 
 -- ---- the word before the text
 
@@ -40,21 +26,23 @@ module _ (line : List ℕ) where
   begins_five : begins_note line ≡ true → 5 ≤ length line
   begins_five e =
       by_cases (ltb (length line) 5)
-      (λ h. let l = ltb-true (length line) 5 h in let g = ap length (sym (take_all 5 line (omega arith)) ∙ same_true (take 5 line) note_word e) in omega arith)
+      (λ h.
+      let l = ltb-true (length line) 5 h in
+      let g = ap length (sym (take_all 5 line (omega arith)) ∙ (bytes_eq-Decides (take 5 line) note_word).0 e) in
+      omega arith)
       (λ h. ltb-false (length line) 5 h)
 
-  pub begins_short : length line < 5 → false ≡ begins_note line
-  begins_short h = sym (false_test begins_five (λ g. omega arith))
-
-  pub begins_same : (b : Bool) → (b ≡ true → take 5 line ≡ note_word) → (take 5 line ≡ note_word → b ≡ true) → b ≡ begins_note line
-  begins_same true f g = sym (true_same (take 5 line) note_word (f refl))
-  begins_same false f g = sym (false_test (same_true (take 5 line) note_word) (λ e. false≢true (g e)))
+  -- the test compares the other way round
+  pub begins_same : (b : Bool) → b ≡ bytes_eq note_word (take 5 line) → b ≡ begins_note line
+  begins_same b e =
+      let d = bytes_eq-Decides note_word (take 5 line) in
+      same_from_decides b (begins_note line) (λ h. sym (d.0 (sym e ∙ h)), λ q. e ∙ d.1 (sym q)) (bytes_eq-Decides (take 5 line) note_word)
 
 -- ---- a note line
 
 -- the line, where the word is there
 pub note_these : (line : List ℕ) → begins_note line ≡ true → line ≡ note_line (drop 5 line)
-note_these line e = sym (take-append-drop 5 line) ∙ ap (λ (w : List ℕ). w ++ drop 5 line) (same_true (take 5 line) note_word e)
+note_these line e = sym (take-append-drop 5 line) ∙ ap (λ (w : List ℕ). w ++ drop 5 line) ((bytes_eq-Decides (take 5 line) note_word).0 e)
 
 -- the test is what it is for
 pub true_note : (line : List ℕ) → is_note_line line ≡ true → IsNote line
@@ -64,7 +52,7 @@ true_note line e =
 
 pub note_true : {line : List ℕ} → IsNote line → is_note_line line ≡ true
 note_true {line} n =
-    true_both {b = begins_note line} (true_same (take 5 line) note_word (ap (take 5) n.these))
+    true_both {b = begins_note line} ((bytes_eq-Decides (take 5 line) note_word).1 (ap (take 5) n.these))
     (true_readable (drop 5 line) (rw n.these n.readable))
 
 note_is : (line : List ℕ) (r : Bool) → r ≡ is_note_line line → SaysNote line r
@@ -72,14 +60,14 @@ note_is line true e = is_note (true_note line (sym e))
 note_is line false e = no_note (λ n. clash (note_true n) (sym e))
 
 module _ (line : List ℕ) (a : Bool) (is : a ≡ begins_note line) where
-  pub note_other : not a ≡ true → SaysNote line false
-  note_other h = note_is line false (rw (← is, not-true a h))
+  pub note_other : a ≡ false → SaysNote line a
+  note_other h = note_is line a (h ∙ sym (rw (← is, h) refl))
 
-  pub note_five : not a ≡ false → 5 ≤ length line
-  note_five h = begins_five line (sym is ∙ not-false a h)
+  pub note_five : a ≡ true → 5 ≤ length line
+  note_five h = begins_five line (sym is ∙ h)
 
-  pub note_read : not a ≡ false → (r : Bool) → r ≡ is_readable (from 5 line) → SaysNote line r
-  note_read h r e = note_is line r (e ∙ (rw (← is, not-false a h, from-drop 5 line)))
+  pub note_read : a ≡ true → (r : Bool) → r ≡ is_readable (from 5 line) → SaysNote line r
+  note_read h r e = note_is line r (e ∙ (rw (← is, h, from-drop 5 line)))
 
 -- ---- what an answer says
 

@@ -6,7 +6,7 @@ use mathlib.Core.Logic.{◌≢◌, ◌⊎◌, inl, inr, ⊎_elim}
 use mathlib.Core.Bool.{Bool, true, false, not, false≢true, true≢false, ◌&&◌, ◌||◌}
 use mathlib.Core.List.Memᴰ
 use mathlib.Core.List.{List, [], ◌∷◌, ◌++◌, Memᴰ}
-use lib.ListN.{length, get_or, drop}
+use lib.ListN.{length, drop}
 use lib.Dec.{eqb, ltb, leb}
 use borrow.Author.Tests.{eq-eqb, ne_eqb, eqb-true, eqb-false, lt-ltb, le-ltb, ltb-true, ltb-false, leb-true, leb-false, le-leb, not-true}
 use Rattle.model.specs.Trace.{Event, read, join}
@@ -20,6 +20,7 @@ use Rattle.wording.specs.Reasons.{is_empty, has, begins_note, is_note_line, word
 use Rattle.wording.proofs.FirstLaws.{first_clear, first_absent, first_split}
 use Rattle.wording.proofs.NoteLaws.{note_these, true_note}
 use Rattle.wording.proofs.LineLaws.{space_within, before_space, after_space}
+use Rattle.wording.proofs.NumberLaws.{zero_alone}
 use Rattle.wording.proofs.ReasonLaws.{word_known, known_word}
 
 -- ---- tests
@@ -140,12 +141,7 @@ leads_true (b ∷ c ∷ s) e = let p = both (ltb 1 (length (b ∷ c ∷ s))) (eq
 
 -- digits with no leading zero are a number in decimal
 in_decimal : (s : List ℕ) → s ≢ [] → Digits s → leads_zero s ≡ false → s ≡ decimal (value_from 0 s)
-in_decimal s n d e = (decimal_exactly (value_from 0 s) s).0 (record { value = refl; digits_only = d; leading = alone s n e })
-  where
-    alone : (s : List ℕ) → s ≢ [] → leads_zero s ≡ false → get_or s 0 48 ≡ 48 → s ≡ 48 ∷ []
-    alone [] n e q = absurd (n refl)
-    alone (b ∷ []) n e q = rw q
-    alone (b ∷ c ∷ s) n e q = clash (true_both {b = ltb 1 (length (b ∷ c ∷ s))} (lt-ltb 1 (suc (suc (length s))) (omega arith)) (eq-eqb b 48 q)) e
+in_decimal s n d e = (decimal_exactly (value_from 0 s) s).0 (record { value = refl; digits_only = d; leading = zero_alone s n e })
 
 -- ---- the reasons
 

@@ -1,10 +1,10 @@
 -- The lines of a text that a recording is made of, as bytes, and what reading one gives.
-use Rattle.std.specs.Prelude.{ℕ, ◌≤◌, ◌<◌, ◌≡◌, Bool, false, cond, List, [], ◌∷◌, ◌++◌, eqb}
+use Rattle.std.specs.Prelude.{ℕ, ◌≤◌, ◌<◌, ◌≡◌, Bool, false, cond, List, [], ◌∷◌, ◌++◌, eqb, Option, Some, None}
 use Rattle.model.specs.Trace.{Event, read, write, acquire, release, fork, join}
 use Rattle.format.specs.Readable.{Readable}
 use Rattle.appending.specs.Decimal.{decimal}
 use Rattle.wording.specs.declared.Line.{Line}
-use Rattle.wording.specs.declared.Line.TheVariants.{Bad, Note, Event as EventOf}
+use Rattle.wording.specs.declared.Line.TheVariants.{Note, Event as EventOf}
 
 -- ---- the words
 
@@ -85,7 +85,7 @@ is_comment (b ∷ l) = eqb b 35
 -- ---- reading a line
 
 -- what each answer means: a note line, the line of this event, neither
-pub data Reads (line : List ℕ) : Line → Type 0 where
-  note : IsNote line → Reads line Note
-  event : {t k o : ℕ} → IsEvent line (record { thread = t; kind = k; object = o }) → Reads line (EventOf t k o)
-  bad : ¬ IsNote line → ((e : Event) → ¬ IsEvent line e) → Reads line Bad
+pub data Reads (line : List ℕ) : Option Line → Type 0 where
+  note : IsNote line → Reads line (Some Note)
+  event : {t k o : ℕ} → IsEvent line (record { thread = t; kind = k; object = o }) → Reads line (Some (EventOf t k o))
+  bad : ¬ IsNote line → ((e : Event) → ¬ IsEvent line e) → Reads line None

@@ -1,12 +1,10 @@
 -- What the parts of a line give.
-use Rattle.std.specs.Prelude.{ℕ, zero, suc, ◌+◌, ◌-◌, ◌*◌, ◌≤◌, ◌<◌, ◌≡◌, ◌≢◌, Bool, true, false, cond, List, [], ◌∷◌, ◌++◌, eqb, ltb}
+use Rattle.std.specs.Prelude.{ℕ, zero, suc, ◌+◌, ◌-◌, ◌*◌, ◌≤◌, ◌<◌, ◌≡◌, ◌≢◌, Bool, true, false, cond, List, [], ◌∷◌, ◌++◌, eqb, ltb, Option, Some, None}
 use Rattle.model.specs.Trace.{Event, read, join}
 use Rattle.appending.specs.Decimal.{decimal}
 use Rattle.wording.specs.Lines.{kind_word, IsNote, IsEvent}
 use Rattle.wording.specs.declared.Line.{Line}
-use Rattle.wording.specs.declared.Line.TheVariants.{Bad, Event as EventOf}
-use Rattle.wording.specs.declared.Number.{Number}
-use Rattle.wording.specs.declared.Number.TheVariants.{Absent, Value}
+use Rattle.wording.specs.declared.Line.TheVariants.{Event as EventOf}
 
 -- is it a note line?
 pub data SaysNote (line : List ℕ) : Bool → Type 0 where
@@ -19,23 +17,23 @@ first_at stop [] = zero
 first_at stop (b ∷ s) = cond (eqb b stop) zero (suc (first_at stop s))
 
 -- the number that digits stand for, v having been read before them; none where a byte is no digit or the number is too large
-abbrev pub digits_from : ℕ → List ℕ → Number
-digits_from v [] = Value v
+abbrev pub digits_from : ℕ → List ℕ → Option ℕ
+digits_from v [] = Some v
 digits_from v (d ∷ s) =
-    cond (ltb d 48) Absent
-    (cond (ltb 57 d) Absent
-    (cond (ltb 65535 (v * 10 + (d - 48))) Absent
+    cond (ltb d 48) None
+    (cond (ltb 57 d) None
+    (cond (ltb 65535 (v * 10 + (d - 48))) None
     (digits_from (v * 10 + (d - 48)) s)))
 
 -- the bytes are this number in decimal, or no number in decimal that an object can have
-pub data ReadsNumber (s : List ℕ) : Number → Type 0 where
-  value : {n : ℕ} → n < 65536 → s ≡ decimal n → ReadsNumber s (Value n)
-  absent : ((n : ℕ) → n < 65536 → s ≢ decimal n) → ReadsNumber s Absent
+pub data ReadsNumber (s : List ℕ) : Option ℕ → Type 0 where
+  value : {n : ℕ} → n < 65536 → s ≡ decimal n → ReadsNumber s (Some n)
+  absent : ((n : ℕ) → n < 65536 → s ≢ decimal n) → ReadsNumber s None
 
--- the word of this kind, or 0 for no kind's
-pub data ReadsKind (s : List ℕ) : ℕ → Type 0 where
-  kind : {k : ℕ} → read ≤ k → k ≤ join → s ≡ kind_word k → ReadsKind s k
-  no_kind : ((k : ℕ) → read ≤ k → k ≤ join → s ≢ kind_word k) → ReadsKind s 0
+-- the word of this kind, or of none
+pub data ReadsKind (s : List ℕ) : Option ℕ → Type 0 where
+  kind : {k : ℕ} → read ≤ k → k ≤ join → s ≡ kind_word k → ReadsKind s (Some k)
+  no_kind : ((k : ℕ) → read ≤ k → k ≤ join → s ≢ kind_word k) → ReadsKind s None
 
 -- an event line from its kind on
 pub record IsAction (s : List ℕ) (k o : ℕ) : Type 0 where
@@ -45,11 +43,11 @@ pub record IsAction (s : List ℕ) (k o : ℕ) : Type 0 where
   pub these : s ≡ kind_word k ++ (32 ∷ decimal o)
 
 -- what is there, after the thread t
-pub data ReadsAction (t : ℕ) (s : List ℕ) : Line → Type 0 where
-  action : {k o : ℕ} → IsAction s k o → ReadsAction t s (EventOf t k o)
-  no_action : ((k o : ℕ) → ¬ IsAction s k o) → ReadsAction t s Bad
+pub data ReadsAction (t : ℕ) (s : List ℕ) : Option Line → Type 0 where
+  action : {k o : ℕ} → IsAction s k o → ReadsAction t s (Some (EventOf t k o))
+  no_action : ((k o : ℕ) → ¬ IsAction s k o) → ReadsAction t s None
 
 -- the line of this event, or of none
-pub data ReadsEvent (line : List ℕ) : Line → Type 0 where
-  is_event : {t k o : ℕ} → IsEvent line (record { thread = t; kind = k; object = o }) → ReadsEvent line (EventOf t k o)
-  no-event : ((e : Event) → ¬ IsEvent line e) → ReadsEvent line Bad
+pub data ReadsEvent (line : List ℕ) : Option Line → Type 0 where
+  is_event : {t k o : ℕ} → IsEvent line (record { thread = t; kind = k; object = o }) → ReadsEvent line (Some (EventOf t k o))
+  no-event : ((e : Event) → ¬ IsEvent line e) → ReadsEvent line None

@@ -1,5 +1,5 @@
 -- Why a line is bad: the first reason that applies to it, computed, and what a reason says of a line.
-use Rattle.std.specs.Prelude.{ℕ, ◌+◌, ◌≤◌, ◌<◌, ◌≡◌, ◌≢◌, ◌⊎◌, Bool, true, false, cond, not, ◌&&◌, ◌||◌, length, get_or, take, drop, eqb, ltb, leb}
+use Rattle.std.specs.Prelude.{ℕ, ◌+◌, ◌≤◌, ◌<◌, ◌≡◌, ◌≢◌, ◌⊎◌, Bool, true, cond, not, ◌&&◌, ◌||◌, length, get_or, take, drop, eqb, ltb, leb, bytes_eq, codes}
 use mathlib.Core.List.{List, [], ◌∷◌, ◌++◌, Memᴰ}
 use Rattle.model.specs.Trace.{read, join}
 use Rattle.model.specs.Lists.{up_to, any_in}
@@ -20,11 +20,8 @@ abbrev pub has : ℕ → List ℕ → Bool
 has b s = ltb (first_at b s) (length s)
 
 -- the same bytes?
-unfoldable pub same : List ℕ → List ℕ → Bool
-same [] [] = true
-same [] (c ∷ t) = false
-same (b ∷ s) [] = false
-same (b ∷ s) (c ∷ t) = eqb b c && same s t
+abbrev pub same : List ℕ → List ℕ → Bool
+same = bytes_eq
 
 -- does it begin with "note ", and is what follows readable?
 abbrev pub begins_note : List ℕ → Bool
@@ -89,6 +86,21 @@ note_reason line = cond (is_note_line line) LateNote (cond (begins_note line) No
 -- of any line
 unfoldable pub reason_of : List ℕ → Reason
 reason_of line = cond (is_empty line) Empty (cond (has 13 line) CarriageReturn (cond (has 9 line) Tab (note_reason line)))
+
+-- ---- the reasons in words
+
+-- what is said of a line with this reason
+abbrev pub in_words : Reason → List ℕ
+in_words Empty = codes "an empty line"
+in_words CarriageReturn = codes "a carriage return"
+in_words Tab = codes "a tab"
+in_words LateNote = codes "a note after an event"
+in_words NoteByte = codes "a note with a byte that is not 20 to 7E hex"
+in_words Words = codes "not three words with one space between them"
+in_words Kind = codes "an unknown kind"
+in_words NoNumber = codes "not a number"
+in_words LeadingZero = codes "a leading zero"
+in_words TooLarge = codes "a number that is too large"
 
 -- ---- what a reason says of a line
 

@@ -1,12 +1,13 @@
 // Reads a line of a recording as text, a note line or an event line, and says why a bad one is bad. No other crate looks into a line, but for a comment's first byte.
 #![tactic(auto)]
 
-ghost use Rattle.std.specs.Prelude.{◌≡◌, ◌≤◌, length};
+ghost use Rattle.std.specs.Prelude.{◌≡◌, ◌≤◌, length, Some};
 ghost use Rattle.wording.specs.Lines.{Reads};
 ghost use Rattle.wording.specs.Parts.{SaysNote, first_at, digits_from, ReadsNumber, ReadsKind, ReadsAction, ReadsEvent};
-ghost use Rattle.wording.specs.Reasons.{has, begins_note, all_digits, leads_zero, number_reason, action_reason, word_reason, note_reason, reason_of};
+ghost use Rattle.wording.specs.Reasons.{has, begins_note, all_digits, leads_zero, number_reason, action_reason, word_reason, note_reason, reason_of, in_words};
 
 use limits::Event;
+use std::fmt;
 
 // The bytes of a note line before its text: the word and a space.
 pub const NOTE_BYTES: usize = 5;
@@ -14,16 +15,15 @@ pub const NOTE_BYTES: usize = 5;
 // The first byte of a comment.
 pub const COMMENT: u8 = b'#';
 
-// What a line is. A note's text is the line without its first NOTE_BYTES bytes.
-#[derive(Clone, Copy)]
+// What a good line is. A note's text is the line without its first NOTE_BYTES bytes.
+#[derive(Clone, Copy, PartialEq, Eq, Debug)]
 pub enum Line {
-    Bad,
     Note,
     Event { thread: u8, kind: u8, object: u16 },
 }
 
 // Why a line is bad: the reasons, in the order in which they are looked for.
-#[derive(Clone, Copy)]
+#[derive(Clone, Copy, PartialEq, Eq, Debug)]
 pub enum Reason {
     Empty,
     CarriageReturn,
@@ -41,11 +41,24 @@ pub enum Reason {
     TooLarge,
 }
 
-// What a word says as a number.
-#[derive(Clone, Copy)]
-pub enum Number {
-    Absent,
-    Value(u16),
+// The reason in words.
+impl fmt::Display for Reason {
+    ghost output = { λ r. Some (in_words r) };
+
+    fn fmt<W: fmt::Write>(&self, f: &mut fmt::Formatter<W>) -> fmt::Result {
+        match self {
+            Reason::Empty => write!(f, "an empty line"),
+            Reason::CarriageReturn => write!(f, "a carriage return"),
+            Reason::Tab => write!(f, "a tab"),
+            Reason::LateNote => write!(f, "a note after an event"),
+            Reason::NoteByte => write!(f, "a note with a byte that is not 20 to 7E hex"),
+            Reason::Words => write!(f, "not three words with one space between them"),
+            Reason::Kind => write!(f, "an unknown kind"),
+            Reason::NoNumber => write!(f, "not a number"),
+            Reason::LeadingZero => write!(f, "a leading zero"),
+            Reason::TooLarge => write!(f, "a number that is too large"),
+        }
+    }
 }
 
 // The first place of a byte, or the end.
@@ -53,14 +66,7 @@ pub fn first_at(s: &[u8], stop: u8) -> usize
     ensures value { result ≡ first_at stop s.now }
     ensures upper_bound { result ≤ length s.now }
 {
-    let mut i = 0;
-    while i < s.len() {
-        if s[i] == stop {
-            return i;
-        }
-        i += 1;
-    }
-    i
+    s.iter().position(|b| *b == stop).unwrap_or(s.len())
 }
 
 // ---- a line
@@ -68,130 +74,106 @@ pub fn first_at(s: &[u8], stop: u8) -> usize
 fn begins_note(line: &[u8]) -> bool
     ensures { result ≡ begins_note line.now }
 {
-    if line.len() < NOTE_BYTES {
-        return false;
-    }
-    check::same(&line[..NOTE_BYTES], b"note ")
+    line.starts_with(b"note ")
 }
 
 pub fn is_note(line: &[u8]) -> bool
     ensures { SaysNote line.now result }
 {
-    if !begins_note(line) {
-        return false;
-    }
-    format::readable(&line[NOTE_BYTES..])
+    begins_note(line) && format::readable(&line[NOTE_BYTES..])
 }
 
 // The number that digits stand for.
-fn read_digits(s: &[u8]) -> Number
+fn read_digits(s: &[u8]) -> Option<u16>
     ensures { result ≡ digits_from 0 s.now }
 {
-    let mut n = 0u32;
-    let mut i = 0;
-    while i < s.len() {
-        let b = s[i];
-        if b < b'0' {
-            return Number::Absent;
+    let mut n = 0u16;
+    for b in s {
+        if !b.is_ascii_digit() {
+            return None;
         }
-        if b'9' < b {
-            return Number::Absent;
-        }
-        n = n * 10 + (b - b'0') as u32;
-        if 65535 < n {
-            return Number::Absent;
-        }
-        i += 1;
+        n = n.checked_mul(10)?.checked_add(u16::from(*b - b'0'))?;
     }
-    Number::Value(n as u16)
+    Some(n)
+}
+
+// A 0 with another byte behind it.
+fn leads_zero(s: &[u8]) -> bool
+    ensures { result ≡ leads_zero s.now }
+{
+    s.len() > 1 && s[0] == b'0'
 }
 
 // A number in decimal has a digit, and none that begins with 0 has another.
-fn read_number(s: &[u8]) -> Number
+fn read_number(s: &[u8]) -> Option<u16>
     ensures { ReadsNumber s.now result }
 {
-    if s.len() == 0 {
-        return Number::Absent;
+    if s.is_empty() || leads_zero(s) {
+        return None;
     }
-    if s[0] != b'0' {
-        return read_digits(s);
-    }
-    if s.len() == 1 {
-        return Number::Value(0);
-    }
-    Number::Absent
+    read_digits(s)
 }
 
-// The kind of a word, or 0.
-fn read_kind(word: &[u8]) -> u8
+// The kind of a word.
+fn read_kind(word: &[u8]) -> Option<u8>
     ensures { ReadsKind word.now result }
 {
-    if check::same(word, b"read") {
-        return Event::READ;
+    if word == b"read".as_slice() {
+        return Some(Event::READ);
     }
-    if check::same(word, b"write") {
-        return Event::WRITE;
+    if word == b"write".as_slice() {
+        return Some(Event::WRITE);
     }
-    if check::same(word, b"acquire") {
-        return Event::ACQUIRE;
+    if word == b"acquire".as_slice() {
+        return Some(Event::ACQUIRE);
     }
-    if check::same(word, b"release") {
-        return Event::RELEASE;
+    if word == b"release".as_slice() {
+        return Some(Event::RELEASE);
     }
-    if check::same(word, b"fork") {
-        return Event::FORK;
+    if word == b"fork".as_slice() {
+        return Some(Event::FORK);
     }
-    if check::same(word, b"join") {
-        return Event::JOIN;
+    if word == b"join".as_slice() {
+        return Some(Event::JOIN);
     }
-    0
+    None
 }
 
 // An event line from its kind on.
-fn read_action(thread: u8, s: &[u8]) -> Line
+fn read_action(thread: u8, s: &[u8]) -> Option<Line>
     ensures { ReadsAction thread s.now result }
 {
     let end = first_at(s, b' ');
     if end == s.len() {
-        return Line::Bad;
+        return None;
     }
-    let kind = read_kind(&s[..end]);
-    if kind == 0 {
-        return Line::Bad;
-    }
-    match read_number(&s[end + 1..]) {
-        Number::Absent => Line::Bad,
-        Number::Value(object) => Line::Event {
-            thread,
-            kind,
-            object,
-        },
-    }
+    let kind = read_kind(&s[..end])?;
+    let object = read_number(&s[end + 1..])?;
+    Some(Line::Event {
+        thread,
+        kind,
+        object,
+    })
 }
 
-fn read_event(line: &[u8]) -> Line
+fn read_event(line: &[u8]) -> Option<Line>
     ensures { ReadsEvent line.now result }
 {
     let end = first_at(line, b' ');
     if end == line.len() {
-        return Line::Bad;
+        return None;
     }
-    match read_number(&line[..end]) {
-        Number::Absent => Line::Bad,
-        Number::Value(n) => {
-            if 255 < n {
-                return Line::Bad;
-            }
-            read_action(n as u8, &line[end + 1..])
-        }
-    }
+    let n = read_number(&line[..end])?;
+    let thread = u8::try_from(n).ok()?;
+    read_action(thread, &line[end + 1..])
 }
 
-pub fn read_line(line: &[u8]) -> Line
+// What a line is, or `None` for a bad one.
+pub fn read_line(line: &[u8]) -> Option<Line>
     ensures { Reads line.now result }
 {
     if is_note(line) {
-        return Line::Note;
+        return Some(Line::Note);
     }
     read_event(line)
 }
@@ -201,55 +183,31 @@ pub fn read_line(line: &[u8]) -> Line
 fn has(s: &[u8], b: u8) -> bool
     ensures { result ≡ has b s.now }
 {
-    first_at(s, b) < s.len()
+    s.contains(&b)
 }
 
 // Digits alone.
 fn all_digits(s: &[u8]) -> bool
     ensures { result ≡ all_digits s.now }
 {
-    let mut i = 0;
-    while i < s.len() {
-        if s[i] < b'0' {
-            return false;
-        }
-        if b'9' < s[i] {
-            return false;
-        }
-        i += 1;
-    }
-    true
+    s.iter().all(|b| b.is_ascii_digit())
 }
 
-// A 0 with another byte behind it.
-fn leads_zero(s: &[u8]) -> bool
-    ensures { result ≡ leads_zero s.now }
-{
-    if s.len() < 2 {
-        return false;
-    }
-    s[0] == b'0'
-}
-
+#[tactic(auto, unfolding(crate::specs::Reasons::number_reason))]
 fn number_reason(thread: &[u8], object: &[u8]) -> Reason
     ensures { result ≡ number_reason thread.now object.now }
 {
-    if !all_digits(thread) {
+    if !all_digits(thread) || !all_digits(object) {
         return Reason::NoNumber;
     }
-    if !all_digits(object) {
-        return Reason::NoNumber;
-    }
-    if leads_zero(thread) {
-        return Reason::LeadingZero;
-    }
-    if leads_zero(object) {
+    if leads_zero(thread) || leads_zero(object) {
         return Reason::LeadingZero;
     }
     Reason::TooLarge
 }
 
 // By what stands behind the first word: it is to be a word, a space and a word.
+#[tactic(auto, unfolding(crate::specs::Reasons::action_reason))]
 fn action_reason(thread: &[u8], s: &[u8]) -> Reason
     ensures { result ≡ action_reason thread.now s.now }
 {
@@ -264,25 +222,24 @@ fn action_reason(thread: &[u8], s: &[u8]) -> Reason
     if has(&s[end + 1..], b' ') {
         return Reason::Words;
     }
-    if read_kind(&s[..end]) == 0 {
+    if read_kind(&s[..end]).is_none() {
         return Reason::Kind;
     }
     number_reason(thread, &s[end + 1..])
 }
 
+#[tactic(auto, unfolding(crate::specs::Reasons::word_reason))]
 fn word_reason(line: &[u8]) -> Reason
     ensures { result ≡ word_reason line.now }
 {
     let end = first_at(line, b' ');
-    if end == 0 {
-        return Reason::Words;
-    }
-    if end == line.len() {
+    if end == 0 || end == line.len() {
         return Reason::Words;
     }
     action_reason(&line[..end], &line[end + 1..])
 }
 
+#[tactic(auto, using(crate::proofs::NoteLaws::says_is), unfolding(crate::specs::Reasons::note_reason))]
 fn note_reason(line: &[u8]) -> Reason
     ensures { result ≡ note_reason line.now }
 {
@@ -296,6 +253,7 @@ fn note_reason(line: &[u8]) -> Reason
 }
 
 // Why a line that is bad is so: the first reason that applies to it.
+#[tactic(auto, unfolding(crate::specs::Reasons::reason_of))]
 pub fn reason_of(line: &[u8]) -> Reason
     ensures { result ≡ reason_of line.now }
 {

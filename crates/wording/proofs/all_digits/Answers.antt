@@ -1,15 +1,10 @@
-use Rattle.std.proofs.Common.{rules}
-use Rattle.wording.proofs.ReasonLaws.{digits_low, digits_high, digits_on, digits_over}
+use Rattle.std.proofs.Common.{rules, tests, ◌∙◌}
+use Rattle.std.proofs.lemmas.Iterator.{YieldsList-from_slice}
+use Rattle.std.proofs.lemmas.Iterator.Search.{all_from_yields_List}
+use Rattle.wording.specs.Reasons.{is_digit}
+use Rattle.wording.proofs.ReasonLaws.{digits_all}
 use Rattle.wording.proofs.all_digits.Goals as goal
 
-pub returns-then-s-i-lt48 : goal.returns-then-s-i-lt48
-returns-then-s-i-lt48 c = search (digits_low, rules)
-
-pub returns-then-s-i-gt57 : goal.returns-then-s-i-gt57
-returns-then-s-i-gt57 c = search (digits_high, rules)
-
-pub loop-i-preserved : goal.loop-i-preserved
-loop-i-preserved c = search (digits_on, rules)
-
 pub returns : goal.returns
-returns c = search (digits_over, rules)
+returns c =
+    all_from_yields_List is_digit _ _ c.all.result c.all.ensures.ran (YieldsList-from_slice c.args.s.now cc) (λ x b q k. search (rules, tests)) ∙ digits_all c.args.s.now

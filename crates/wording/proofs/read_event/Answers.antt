@@ -1,19 +1,20 @@
-use Rattle.std.proofs.Common.{rules}
-use Rattle.model.proofs.Lists.{front_length}
+use Rattle.std.proofs.Common.{rules, ◌<◌, ◌≡◌}
 use Rattle.wording.proofs.LineLaws.{event_short, event_number_lem, event_large, event_read}
 use Rattle.wording.proofs.read_event.Goals as goal
 
 pub returns-then-end-line : goal.returns-then-end-line
 returns-then-end-line c = search (event_short, rules)
 
-pub slice_bounds-read_number-end : goal.slice_bounds-read_number-end
-slice_bounds-read_number-end c = search (front_length, rules)
+pub returns-in_err-n : goal.returns-in_err-n
+returns-in_err-n c = search (event_number_lem, rules)
 
-pub returns-then-n-gt255 : goal.returns-then-n-gt255
-returns-then-n-gt255 c = search (event_large, rules)
+pub returns-in_err-thread : goal.returns-in_err-thread
+returns-in_err-thread c =
+    let h : 255 < c.in_ok-n.n = search rules in
+    rw c.from_residual-in_err-thread.ensures (event_large _ _ c.first_at-end.ensures.value _ c.read_number.ensures c.in_ok-n.n c.in_ok-n.was h)
 
-pub returns-in-Absent : goal.returns-in-Absent
-returns-in-Absent c = search (event_number_lem, rules)
-
-pub returns-else-n-gt255 : goal.returns-else-n-gt255
-returns-else-n-gt255 c = search (event_read, rules)
+pub returns : goal.returns
+returns c =
+    let e : c.in_ok-thread.thread ≡ c.in_ok-n.n = search rules in
+    let l : c.in_ok-n.n < 256 = search rules in
+    event_read _ _ c.first_at-end.ensures.value _ c.read_number.ensures c.in_ok-n.n c.in_ok-n.was c.if-end-line.false c.first_at-end.ensures.upper_bound _ e l _ c.read_action.ensures

@@ -1,38 +1,39 @@
-use Rattle.std.proofs.Common.{rules}
-use Rattle.wording.specs.Lines.{kind_word}
-use Rattle.wording.proofs.LineLaws.{kind_is, word-other, kind_other}
+use Rattle.std.proofs.Common.{◌≡◌, ◌≢◌, arith, rules}
+use Rattle.wording.specs.Lines.{read_word, write_word, acquire_word, release_word, fork_word, join_word, kind_word}
+use Rattle.wording.specs.Parts.{kind}
+use Rattle.wording.proofs.LineLaws.{kind_other}
 use Rattle.wording.proofs.read_kind.Goals as goal
 
-pub returns-then-same : goal.returns-then-same
+pub returns-then-eq : goal.returns-then-eq
 unfolding kind_word
-returns-then-same c = kind_is 1 _ _ (search rules) (search rules) c.same.ensures.0 c.if-same.true
+returns-then-eq c = let h : c.args.word.now ≡ read_word = search rules in kind {k = 1} (omega arith) (omega arith) h
 
-pub returns-then-same-2 : goal.returns-then-same-2
+pub returns-then-eq-2 : goal.returns-then-eq-2
 unfolding kind_word
-returns-then-same-2 c = kind_is 2 _ _ (search rules) (search rules) c.same-2.ensures.0 c.if-same-2.true
+returns-then-eq-2 c = let h : c.args.word.now ≡ write_word = search rules in kind {k = 2} (omega arith) (omega arith) h
 
-pub returns-then-same-3 : goal.returns-then-same-3
+pub returns-then-eq-3 : goal.returns-then-eq-3
 unfolding kind_word
-returns-then-same-3 c = kind_is 3 _ _ (search rules) (search rules) c.same-3.ensures.0 c.if-same-3.true
+returns-then-eq-3 c = let h : c.args.word.now ≡ acquire_word = search rules in kind {k = 3} (omega arith) (omega arith) h
 
-pub returns-then-same-4 : goal.returns-then-same-4
+pub returns-then-eq-4 : goal.returns-then-eq-4
 unfolding kind_word
-returns-then-same-4 c = kind_is 4 _ _ (search rules) (search rules) c.same-4.ensures.0 c.if-same-4.true
+returns-then-eq-4 c = let h : c.args.word.now ≡ release_word = search rules in kind {k = 4} (omega arith) (omega arith) h
 
-pub returns-then-same-5 : goal.returns-then-same-5
+pub returns-then-eq-5 : goal.returns-then-eq-5
 unfolding kind_word
-returns-then-same-5 c = kind_is 5 _ _ (search rules) (search rules) c.same-5.ensures.0 c.if-same-5.true
+returns-then-eq-5 c = let h : c.args.word.now ≡ fork_word = search rules in kind {k = 5} (omega arith) (omega arith) h
 
-pub returns-then-same-6 : goal.returns-then-same-6
+pub returns-then-eq-6 : goal.returns-then-eq-6
 unfolding kind_word
-returns-then-same-6 c = kind_is 6 _ _ (search rules) (search rules) c.same-6.ensures.0 c.if-same-6.true
+returns-then-eq-6 c = let h : c.args.word.now ≡ join_word = search rules in kind {k = 6} (omega arith) (omega arith) h
 
 pub returns : goal.returns
 returns c =
-    kind_other _
-    (word-other c.same.ensures c.if-same.false)
-    (word-other c.same-2.ensures c.if-same-2.false)
-    (word-other c.same-3.ensures c.if-same-3.false)
-    (word-other c.same-4.ensures c.if-same-4.false)
-    (word-other c.same-5.ensures c.if-same-5.false)
-    (word-other c.same-6.ensures c.if-same-6.false)
+    let not_read : c.args.word.now ≢ read_word = search rules in
+    let not_write : c.args.word.now ≢ write_word = search rules in
+    let not_acquire : c.args.word.now ≢ acquire_word = search rules in
+    let not_release : c.args.word.now ≢ release_word = search rules in
+    let not_fork : c.args.word.now ≢ fork_word = search rules in
+    let not_join : c.args.word.now ≢ join_word = search rules in
+    kind_other _ not_read not_write not_acquire not_release not_fork not_join
