@@ -7,5 +7,3 @@ pub mod PartLaws
 pub mod ReadLaws
 -- What the computed tests say
 pub mod ReadableExact
--- The ways through the code
-pub mod ReadableLaws

@@ -13,7 +13,7 @@ use Rattle.format.specs.Bytes.{byte, event_at, trace_in}
 use Rattle.format.specs.Layout.{count, start, preamble, event_part, events, trailer, Layout, Parts, recording_of, file_of, Placed}
 use Rattle.limits.specs.declared.Recording.{Recording}
 use Rattle.limits.specs.declared.Refusal.{Refusal}
-use Rattle.format.specs.declared.File.TheVariants.{Refused, Good}
+use Rattle.std.specs.Prelude.{Ok, Err}
 use Rattle.format.proofs.EventLaws.{trace-length, trace-at}
 
 module _ (z : ℕ) (s : List ℕ) (l : Layout z s) where
@@ -106,16 +106,16 @@ part-trace s ev e = ap trace_in e
 -- ---- what a reading says of the refusal
 
 module _ (s : List ℕ) (o : Option Refusal) where
-  pub read-good : (t : Recording) → file_of s o ≡ Good t → (o ≡ none) × (t ≡ recording_of s)
+  pub read-good : (t : Recording) → file_of s o ≡ Ok t → (o ≡ none) × (t ≡ recording_of s)
   read-good t e = go o refl e
     where
-      go : (p : Option Refusal) → o ≡ p → file_of s p ≡ Good t → (o ≡ none) × (t ≡ recording_of s)
+      go : (p : Option Refusal) → o ≡ p → file_of s p ≡ Ok t → (o ≡ none) × (t ≡ recording_of s)
       go none q f = (q, cc)
       go (some r) q f = let x : ◌≡◌ {A = ℕ} 0 1 = cc in absurd (omega arith)
 
-  pub read_refused : (r : Refusal) → file_of s o ≡ Refused r → o ≡ some r
+  pub read_refused : (r : Refusal) → file_of s o ≡ Err r → o ≡ some r
   read_refused r e = go o refl e
     where
-      go : (p : Option Refusal) → o ≡ p → file_of s p ≡ Refused r → o ≡ some r
+      go : (p : Option Refusal) → o ≡ p → file_of s p ≡ Err r → o ≡ some r
       go none q f = let x : ◌≡◌ {A = ℕ} 0 1 = cc in absurd (omega arith)
       go (some q) p f = p ∙ cc

@@ -1,4 +1,4 @@
--- The ways through `read`, `read_trailer`, `read_distance` and `marked`, each with the tests that led there.
+-- The ways through `read`, `read_trailer` and `read_distance`, each with the tests that led there.
 use Prim.Native.Nat.{ℕ, ◌+◌, ◌-◌, ◌*◌, ◌≤◌, ◌<◌}
 use native.Mathlib.Omega.{arith}
 use mathlib.Core.Path.{◌≡◌, refl, ap, sym, ◌∙◌}
@@ -8,28 +8,28 @@ use mathlib.Core.Option.{Option, some}
 use mathlib.Core.List.{List}
 use lib.ListN.{length, take, drop}
 use lib.Seq.{length-take-le}
-use lib.Dec.{leb, eqb}
-use borrow.Author.Tests.{leb-true, leb-false, not-true, not-false, eq-eqb, ne_eqb}
+use lib.Dec.{leb}
+use borrow.Author.Tests.{leb-true, leb-false, not-true, not-false}
 use Rattle.model.proofs.Tests.{test_false}
 use Rattle.model.specs.Rows.{Answer, First}
 use Rattle.model.specs.Good.{max_events}
-use Rattle.limits.specs.Limits.{event_bytes, trailer_bytes, is_file_size, mark_first, mark_second}
+use Rattle.limits.specs.Limits.{event_bytes, trailer_bytes, is_file_size}
 use Rattle.limits.specs.Refusals.{paper}
 use Rattle.format.specs.Readable.{is_readable}
 use Rattle.format.proofs.ReadableExact.{readable_true, true_readable}
-use Rattle.format.specs.Bytes.{byte, number16, number32}
+use Rattle.format.specs.Bytes.{number16, number32}
 use Rattle.format.specs.Layout.{distance, count, start, preamble, Sized, Counted, Marked, Pointed, layout_rows, is_marked, layout_refusal, file_of}
 use Rattle.limits.specs.declared.Refusal.{Refusal}
 use Rattle.limits.specs.declared.Refusal.TheVariants.{FileSize, Mark, EventCount, Distance, Preamble}
-use Rattle.format.specs.declared.File.TheVariants.{Refused, Good}
+use Rattle.std.specs.Prelude.{Ok, Err}
 use Rattle.format.proofs.LayoutExact.{sized_true, true_sized, marked_true, true_marked, layout_exactly, layout_none}
 
 module _ (s : List ℕ) where
-  refused : (r : Refusal) → First (layout_rows event_bytes s) (some (paper r)) → Refused r ≡ file_of s (layout_refusal event_bytes s)
+  refused : (r : Refusal) → First (layout_rows event_bytes s) (some (paper r)) → Err r ≡ file_of s (layout_refusal event_bytes s)
   refused r p = ap (file_of s) (sym ((layout_exactly s event_bytes (some r)).1 p))
 
   module _ (b : Bool) (eb : b ≡ is_file_size (length s)) where
-    pub size_wrong : not b ≡ true → Refused FileSize ≡ file_of s (layout_refusal event_bytes s)
+    pub size_wrong : not b ≡ true → Err FileSize ≡ file_of s (layout_refusal event_bytes s)
     size_wrong h = refused FileSize (inl (test_false (true_sized s) (sym eb ∙ not-true b h), refl))
 
     pub size_right : not b ≡ false → Sized s
@@ -37,14 +37,14 @@ module _ (s : List ℕ) where
 
   module _ (sized : Sized s) where
     module _ (a : Bool) (ea : a ≡ is_marked s) where
-      pub mark_wrong : not a ≡ true → Refused Mark ≡ file_of s (layout_refusal event_bytes s)
+      pub mark_wrong : not a ≡ true → Err Mark ≡ file_of s (layout_refusal event_bytes s)
       mark_wrong h = refused Mark (inr ((λ f. f sized), inl (test_false (true_marked s) (sym ea ∙ not-true a h), refl)))
 
       module _ (right : not a ≡ false) (n : ℕ) (en : n ≡ number16 s (length s - 4)) (b : Bool) (eb : b ≡ leb n max_events) where
         marked : Marked s
         marked = marked_true s (sym ea ∙ not-false a right)
 
-        pub count_high : not b ≡ true → Refused EventCount ≡ file_of s (layout_refusal event_bytes s)
+        pub count_high : not b ≡ true → Err EventCount ≡ file_of s (layout_refusal event_bytes s)
         unfolding count
         count_high h = let m = leb-false n max_events (sym eb ∙ not-true b h) in refused EventCount (inr ((λ f. f sized), inr ((λ f. f marked), inl ((λ p. omega arith), refl))))
 
@@ -61,10 +61,10 @@ module _ (s : List ℕ) where
     past : (o : Option Answer) → First (drop 3 (layout_rows event_bytes s)) o → First (layout_rows event_bytes s) o
     past o f = inr ((λ n. n c.sized), inr ((λ n. n c.marked), inr ((λ n. n few), f)))
 
-    far : (Pointed event_bytes s → ⊥) → Refused Distance ≡ file_of s (layout_refusal event_bytes s)
+    far : (Pointed event_bytes s → ⊥) → Err Distance ≡ file_of s (layout_refusal event_bytes s)
     far x = refused Distance (past _ (inl (x, refl)))
 
-    pub distance_beyond : length s < d → Refused Distance ≡ file_of s (layout_refusal event_bytes s)
+    pub distance_beyond : length s < d → Err Distance ≡ file_of s (layout_refusal event_bytes s)
     unfolding distance
     distance_beyond x = far (λ p. let w = p.within in omega arith)
 
@@ -72,7 +72,7 @@ module _ (s : List ℕ) where
       pub preamble-count : length s - d ≡ length (take (length s - d) s)
       preamble-count = sym (length-take-le (length s - d) s (omega arith))
 
-      pub distance-other : (d ≡ trailer_bytes + event_bytes * n → ⊥) → Refused Distance ≡ file_of s (layout_refusal event_bytes s)
+      pub distance-other : (d ≡ trailer_bytes + event_bytes * n → ⊥) → Err Distance ≡ file_of s (layout_refusal event_bytes s)
       unfolding distance
       distance-other x = far (λ p. let y = p.back in let e = c.number in x (omega arith))
 
@@ -90,20 +90,11 @@ module _ (s : List ℕ) where
           unfolding preamble
           tested = eb ∙ ap (λ (m : ℕ). is_readable (take m s)) starts
 
-          pub preamble_wrong : not b ≡ true → Refused Preamble ≡ file_of s (layout_refusal event_bytes s)
+          pub preamble_wrong : not b ≡ true → Err Preamble ≡ file_of s (layout_refusal event_bytes s)
           preamble_wrong h = refused Preamble (past _ (inr ((λ f. f pointed), inl (test_false (true_readable (preamble s)) (sym tested ∙ not-true b h), refl))))
 
-          pub good : not b ≡ false → Good (record { start = length s - d }) ≡ file_of s (layout_refusal event_bytes s)
+          pub good : not b ≡ false → Ok (record { start = length s - d }) ≡ file_of s (layout_refusal event_bytes s)
           good h =
               let r = readable_true (preamble s) (sym tested ∙ not-false b h) in
               let o = (layout_none s event_bytes).1 (record { sized = c.sized; marked = c.marked; few = few; pointed = pointed; readable = r }) in
               rw (o, starts)
-
-module _ (s : List ℕ) where
-  pub first_wrong : (byte s (length s - 2) ≡ mark_first → ⊥) → false ≡ is_marked s
-  unfolding is_marked
-  first_wrong ne = rw (ne_eqb _ _ ne)
-
-  pub first_right : byte s (length s - 2) ≡ mark_first → eqb (byte s (length s - 1)) mark_second ≡ is_marked s
-  unfolding is_marked
-  first_right e = rw (eq-eqb _ _ e)

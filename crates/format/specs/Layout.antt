@@ -1,5 +1,5 @@
 -- A file: preamble, events of z bytes each, trailer. Refusals 1 to 4 and 13.
-use Rattle.std.specs.Prelude.{ℕ, ◌+◌, ◌-◌, ◌*◌, ◌≤◌, ◌≡◌, Bool, ◌&&◌, not, List, [], ◌∷◌, ◌++◌, length, take, drop, eqb, leb}
+use Rattle.std.specs.Prelude.{ℕ, ◌+◌, ◌-◌, ◌*◌, ◌≤◌, ◌≡◌, Bool, ◌&&◌, not, List, [], ◌∷◌, ◌++◌, length, take, drop, eqb, leb, Result, Ok, Err}
 use Rattle.std.proofs.Math.Option.{Option, none, some}
 use Rattle.model.specs.Trace.{Trace, Valid, at}
 use Rattle.model.specs.Good.{max_events}
@@ -10,8 +10,6 @@ use Rattle.format.specs.Bytes.{byte, number16, number32, event_at, trace_of}
 use Rattle.limits.specs.declared.Refusal.{Refusal}
 use Rattle.limits.specs.declared.Refusal.TheVariants.{FileSize, Mark, EventCount, Distance, Preamble}
 use Rattle.limits.specs.declared.Recording.{Recording}
-use Rattle.format.specs.declared.File.{File}
-use Rattle.format.specs.declared.File.TheVariants.{Refused, Good}
 
 -- ---- the trailer: distance (4 bytes), number of events (2 bytes), mark (2 bytes)
 
@@ -110,9 +108,9 @@ abbrev pub recording_of : List ℕ → Recording
 recording_of s = record { start = start s }
 
 -- what reading a file gives, by its refusal
-abbrev pub file_of : List ℕ → Option Refusal → File
-file_of s none = Good (recording_of s)
-file_of s (some r) = Refused r
+abbrev pub file_of : List ℕ → Option Refusal → Result Recording Refusal
+file_of s none = Ok (recording_of s)
+file_of s (some r) = Err r
 
 -- what `read_distance` asks: refusals 1 to 3 have no case, and the trailer counts n events
 pub record Counted (s : List ℕ) (n : ℕ) : Type 0 where

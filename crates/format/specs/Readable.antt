@@ -1,6 +1,7 @@
 -- Which bytes a preamble may hold (refusal 13).
-use Rattle.std.specs.Prelude.{ℕ, ◌≤◌, ◌≡◌, ◌⊎◌, Bool, true, ◌&&◌, ◌||◌, eqb, leb}
-use mathlib.Core.List.{List, [], ◌∷◌, Memᴰ}
+use Rattle.std.specs.Prelude.{ℕ, ◌≤◌, ◌≡◌, ◌⊎◌, Bool, ◌&&◌, ◌||◌, eqb, leb}
+use Rattle.std.specs.List.{list_all}
+use mathlib.Core.List.{List, Memᴰ}
 
 -- the line feed, and the lowest and the highest of the other bytes
 abbrev pub line_feed : ℕ
@@ -25,5 +26,4 @@ unfoldable pub is_readable_byte : ℕ → Bool
 is_readable_byte b = eqb b line_feed || (leb lowest_byte b && leb b highest_byte)
 
 unfoldable pub is_readable : List ℕ → Bool
-is_readable [] = true
-is_readable (b ∷ s) = is_readable_byte b && is_readable s
+is_readable s = list_all is_readable_byte s

@@ -25,39 +25,21 @@ impl NoteByte {
     pub const HIGHEST: u8 = 0x7E;
 
     // May a preamble hold it?
+    #[tactic(auto, unfolding(crate::specs::Readable::is_readable_byte))]
     pub fn is_readable(self) -> bool
         ensures { result ≡ is_readable_byte self.value }
     {
-        if self.value == NoteByte::LINE_FEED {
-            return true;
-        }
-        if self.value < NoteByte::LOWEST {
-            return false;
-        }
-        self.value <= NoteByte::HIGHEST
+        self.value == NoteByte::LINE_FEED
+            || (NoteByte::LOWEST..=NoteByte::HIGHEST).contains(&self.value)
     }
 }
 
 // May a preamble be these bytes?
+#[tactic(auto, unfolding(crate::specs::Readable::is_readable))]
 pub fn readable(s: &[u8]) -> bool
     ensures { result ≡ is_readable s.now }
 {
-    let mut i = 0;
-    while i < s.len() {
-        let b = NoteByte { value: s[i] };
-        if !b.is_readable() {
-            return false;
-        }
-        i += 1;
-    }
-    true
-}
-
-// What reading a file gives.
-#[derive(Clone, Copy)]
-pub enum File {
-    Refused(Refusal),
-    Good(Recording),
+    s.iter().all(|b| NoteByte { value: *b }.is_readable())
 }
 
 fn wide(b: u8) -> usize
@@ -83,64 +65,59 @@ fn read32(s: &[u8], at: usize) -> usize
 }
 
 // Has the file the mark?
+#[tactic(auto, unfolding(crate::specs::Layout::is_marked))]
 fn marked(file: &[u8]) -> bool
     requires { Sized file.now }
     ensures { result ≡ is_marked file.now }
 {
     let len = file.len();
-    if file[len - 2] != Recording::MARK_FIRST {
-        return false;
-    }
-    file[len - 1] == Recording::MARK_SECOND
+    file[len - 2] == Recording::MARK_FIRST && file[len - 1] == Recording::MARK_SECOND
 }
 
 // Refusals 4 and 13, in their order, where the trailer counts so many events.
-fn read_distance(file: &[u8], events: usize) -> File
+fn read_distance(file: &[u8], events: usize) -> Result<Recording, Refusal>
     requires { Counted file.now events }
     ensures { result ≡ file_of file.now (layout_refusal event_bytes file.now) }
 {
     let len = file.len();
     let distance = read32(file, len - Recording::TRAILER_BYTES);
-    if len < distance {
-        return File::Refused(Refusal::Distance);
-    }
-    if distance != Recording::TRAILER_BYTES + Event::BYTES * events {
-        return File::Refused(Refusal::Distance);
+    if len < distance || distance != Recording::TRAILER_BYTES + Event::BYTES * events {
+        return Err(Refusal::Distance);
     }
     let start = len - distance;
     if !readable(&file[..start]) {
-        return File::Refused(Refusal::Preamble);
+        return Err(Refusal::Preamble);
     }
-    File::Good(Recording { start })
+    Ok(Recording { start })
 }
 
 // Refusals 2 to 4 and 13, in their order.
-fn read_trailer(file: &[u8]) -> File
+fn read_trailer(file: &[u8]) -> Result<Recording, Refusal>
     requires { Sized file.now }
     ensures { result ≡ file_of file.now (layout_refusal event_bytes file.now) }
 {
     if !marked(file) {
-        return File::Refused(Refusal::Mark);
+        return Err(Refusal::Mark);
     }
     let events = read16(file, file.len() - 4);
     if !Recording::events_in_limit(events) {
-        return File::Refused(Refusal::EventCount);
+        return Err(Refusal::EventCount);
     }
     read_distance(file, events)
 }
 
 // Refusals 1 to 4 and 13, in their order.
-pub fn read(file: &[u8]) -> File
+pub fn read(file: &[u8]) -> Result<Recording, Refusal>
     ensures { result ≡ file_of file.now (layout_refusal event_bytes file.now) }
 {
     if !Recording::bytes_in_limit(file.len()) {
-        return File::Refused(Refusal::FileSize);
+        return Err(Refusal::FileSize);
     }
     read_trailer(file)
 }
 
 // The bytes of the events of a file that has been read.
-pub fn events<'a>(file: &'a [u8], t: Recording) -> &'a [u8]
+pub fn events(file: &[u8], t: Recording) -> &[u8]
     requires { Placed file.now t }
     ensures { result.now ≡ part_of file.now }
 {

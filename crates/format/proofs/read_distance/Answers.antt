@@ -1,12 +1,11 @@
 use Rattle.std.proofs.Common.{rules}
 use Rattle.format.proofs.ReadLaws.{distance_beyond, distance-other, preamble-count, preamble_wrong, good}
 use Rattle.format.proofs.read_distance.Goals as goal
+use Rattle.format.proofs.read_distance.Goals.{then-len-distance-via-then-len-distance, then-len-distance-via-else-len-distance+then-distance-events}
 
 pub returns-then-len-distance : goal.returns-then-len-distance
-returns-then-len-distance c = search (distance_beyond, rules)
-
-pub returns-then-distance-events : goal.returns-then-distance-events
-returns-then-distance-events c = search (distance-other, rules)
+returns-then-len-distance c =
+    elim c.then-len-distance.branch [ then-len-distance-via-then-len-distance w ↦ search (distance_beyond, rules) | then-len-distance-via-else-len-distance+then-distance-events w ↦ search (distance-other, rules) ]
 
 pub slice_bounds-readable-end : goal.slice_bounds-readable-end
 slice_bounds-readable-end c = search (preamble-count, rules)
