@@ -78,8 +78,8 @@ module _ (t : Trace) (w : WellFormed t) (k : ℕ) where
 
 -- ---- at the start
 
-pub events_new : (t : Trace) (l : List ℕ) → l ≡ replicate (max_thread + 1) 0 → LastEvents t 1 l
-events_new t l e = rw e (entries_new _ max_thread (λ c. refl))
+pub events_new : (t : Trace) → LastEvents t 1 (replicate (max_thread + 1) 0)
+events_new t = entries_new _ max_thread (λ c. refl)
 
 pub forks_new : (t : Trace) → Forks t 1 (replicate (max_thread + 1) 0)
 forks_new t = entries_new _ max_thread (λ c. refl)

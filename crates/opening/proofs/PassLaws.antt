@@ -7,7 +7,6 @@ use lib.ListN.{length}
 use Rattle.model.specs.Trace.{Trace, Valid}
 use Rattle.table.specs.Table.{trace, columns, column, with_word}
 use Rattle.opening.specs.Filling.{Columns, Turn, Stepped}
-use Rattle.opening.specs.Knows.{LastEvents, Tails}
 use Rattle.opening.proofs.FillLaws.{Passed, passed_start, passed-columns, passed_end, passed_more, columns-trace}
 
 -- ---- a step of a pass over the table
@@ -55,16 +54,23 @@ pub record Ahead (Knows : Trace → ℕ → List ℕ → Type 0) (c n k : ℕ) (
   pub knows : Knows (trace s₀) k list
 
 module _ {Knows : Trace → ℕ → List ℕ → Type 0} {c n : ℕ} where
-  pub ahead_start : {s list : List ℕ} → 2 ≤ c → c < columns → Columns (trace s) c s → n ≡ length (trace s) → Knows (trace s) 1 list → Ahead Knows c n 1 s list s
-  ahead_start two l p e kn = record { two = two; forward = from_first p l e; knows = kn }
+  pub ahead_start : {s list : List ℕ} → (2 ≤ c) × (c < columns) → Columns (trace s) c s → n ≡ length (trace s) → Knows (trace s) 1 list → Ahead Knows c n 1 s list s
+  ahead_start l p e kn = record { two = l.0; forward = from_first p l.1 e; knows = kn }
 
   module _ {k : ℕ} {s₀ list s : List ℕ} (p : Ahead Knows c n k s₀ list s) where
     -- the trace is the same on the way
-    pub ahead_tails : {tails : List ℕ} → Tails (trace s₀) tails → Tails (trace s) tails
-    ahead_tails x = rw (same p.two p.forward.passed) x
+    pub ahead_same : trace s ≡ trace s₀
+    ahead_same = same p.two p.forward.passed
 
-    pub ahead_end : n + 1 ≤ k → (d : ℕ) → d ≡ suc c → Columns (trace s₀) d s
-    ahead_end h d e = rw e (forward_end p.forward h)
+    pub ahead_end : n + 1 ≤ k → Columns (trace s₀) (suc c) s
+    ahead_end h = forward_end p.forward h
+
+    -- behind the last event
+    pub ahead_last : n + 1 ≤ k → k ≤ n + 1 → Knows (trace s₀) (suc (length (trace s₀))) list
+    ahead_last h l =
+        let e = p.forward.all in
+        let z : k ≡ suc (length (trace s₀)) = omega arith in
+        rw z at p.knows
 
     module _ (h : k < n + 1) where
       pub ahead_turn : Turn Knows c k s list
@@ -74,13 +80,6 @@ module _ {Knows : Trace → ℕ → List ℕ → Type 0} {c n : ℕ} where
       ahead_more q =
           let o = p.forward.passed in
           record { two = p.two; forward = forward_more p.forward h q.set (rw (same p.two o)); knows = turn_knows p.two o q }
-
--- behind the last event the list of last events has those of the whole trace
-pub ahead_last : {n k : ℕ} {s₀ list s : List ℕ} → Ahead LastEvents 2 n k s₀ list s → k ≤ n + 1 → n + 1 ≤ k → Tails (trace s₀) list
-ahead_last {n} {k} {s₀} {list} p h l =
-    let e = p.forward.all in
-    let z : k ≡ suc (length (trace s₀)) = omega arith in
-    rw z at p.knows
 
 -- ---- backwards
 

@@ -2,13 +2,14 @@
 // column. The first two are the events' own, from the bytes; every further pass reads the table alone.
 #![tactic(auto)]
 
-ghost use Rattle.std.specs.Prelude.{◌≡◌, suc, ◌+◌, ◌-◌, ◌≤◌, ◌<◌, length, replicate, ◌≢◌};
-ghost use Rattle.model.specs.Trace.{Valid, join, kind_of};
+ghost use Rattle.std.specs.Prelude.{ℕ, List, ◌≡◌, suc, ◌+◌, ◌-◌, ◌≤◌, ◌<◌, length, replicate, ◌≢◌};
+ghost use Rattle.std.proofs.Common.{rules};
+ghost use Rattle.model.specs.Trace.{Trace, Valid, join, kind_of};
 ghost use Rattle.model.specs.Good.{Good, max_thread};
 ghost use Rattle.model.specs.Sections.{is_outermost, is_last};
 ghost use Rattle.format.specs.Bytes.{trace_in};
 ghost use Rattle.judging.specs.Judged.{events_of, refusal_of};
-ghost use Rattle.table.specs.Table.{trace, column, room};
+ghost use Rattle.table.specs.Table.{trace, columns, column, room};
 ghost use Rattle.opening.specs.Filling.{Columns, Turn, Stepped, Filled, Built};
 ghost use Rattle.opening.specs.Knows.{LastEvents, Tails, LastWrites, Forks, Depths, NextEnds, LastTaken, access_began};
 ghost use Rattle.opening.specs.Opening.{Opens};
@@ -45,24 +46,58 @@ fn add_own(ev: &[u8], c: usize, table: &mut [u16])
     }
 }
 
-// Event k is linked to the last event of its thread, and is the last from then on.
-fn put_previous(table: &mut [u16], k: usize, last: &mut [u16; Thread::COUNT])
-    requires { Turn LastEvents 2 k table.old last.old }
-    ensures { Stepped LastEvents 2 k (k + 1) table.old table.new last.new }
-{
-    let thread = table::thread_place(table, k);
-    table::set_word(table, k, table::PREVIOUS, last[thread]);
-    last[thread] = k as u16;
+// A pass over the events that fills one column, with a list of what it has seen.
+trait Pass {
+    // The column.
+    ghost column: { ℕ };
+
+    // Its list, and what the list knows before each event.
+    ghost list: { Self → List ℕ };
+
+    ghost knows: { Trace → ℕ → List ℕ → Type 0 };
+
+    // What else it stands on, which no step changes.
+    ghost uses: { Trace → Self → Type 0 } = { λ _ _. Unit {0} };
+
+    // Event k has its turn.
+    fn put(&mut self, table: &mut [u16], k: usize)
+        requires { Turn knows column k table.old (list self.old) × uses (trace table.old) self.old }
+        ensures { Stepped knows column k (k + 1) table.old table.new (list self.new) × uses (trace table.old) self.new };
+
+    // It reads the table alone: the first two columns, the events' own, are there.
+    ghost is_link: { (2 ≤ column) × (column < columns) };
 }
 
-// The event before each in its thread. The list is lent as of no event, and then has the last event of each thread.
-fn add_previous(table: &mut [u16], last: &mut [u16; Thread::COUNT])
-    requires { Columns (trace table.old) 2 table.old × (last.old ≡ replicate (max_thread + 1) 0) }
-    ensures { Columns (trace table.old) 3 table.new × Tails (trace table.old) last.new }
+// Fills a pass's column. The list then knows what it has to behind the last event.
+fn add<P: Pass>(table: &mut [u16], pass: &mut P)
+    requires { Columns (trace table.old) P.column table.old × P.knows (trace table.old) 1 (P.list pass.old) × P.uses (trace table.old) pass.old }
+    ensures { Columns (trace table.old) (suc P.column) table.new × P.knows (trace table.old) (suc (length (trace table.old))) (P.list pass.new) }
 {
     let n = table::count(table);
     for k in 1..n + 1 {
-        put_previous(table, k, last);
+        pass.put(table, k);
+    }
+}
+
+// The event before each in its thread, by the last event of each thread so far.
+#[derive(Drop)]
+struct Previous {
+    last: [u16; Thread::COUNT],
+}
+
+impl Pass for Previous {
+    ghost column = { 2 };
+
+    ghost list = { λ s. s.last };
+
+    ghost knows = { LastEvents };
+
+    ghost is_link = { Prim.search rules };
+
+    fn put(&mut self, table: &mut [u16], k: usize) {
+        let thread = table::thread_place(table, k);
+        table::set_word(table, k, table::PREVIOUS, self.last[thread]);
+        self.last[thread] = k as u16;
     }
 }
 
@@ -83,66 +118,66 @@ fn put_observed(table: &mut [u16], k: usize, last: &mut [u16; Event::OBJECTS])
     }
 }
 
-// A join is linked to the last event of the joined thread.
-fn put_waits(
-    table: &mut [u16],
-    k: usize,
-    tails: &[u16; Thread::COUNT],
-    last: &mut [u16; Event::OBJECTS],
-)
-    requires { Turn LastWrites 3 k table.old last.old × Tails (trace table.old) tails.now }
-    ensures { Stepped LastWrites 3 k (k + 1) table.old table.new last.new }
-{
-    if table::kind_at(table, k) != Event::JOIN {
-        put_observed(table, k, last);
-        return;
-    }
-    let child = table::child_place(table, k);
-    table::set_word(table, k, table::WAITS, tails[child]);
+// What each read and each join waits for, by the last write of each cell so far, and by the last event of each thread.
+#[derive(Drop)]
+struct Waits<'a> {
+    last: [u16; Event::OBJECTS],
+    tails: &'a [u16; Thread::COUNT],
 }
 
-// What each read and each join waits for, by the last event of each thread.
-fn add_waits(table: &mut [u16], tails: &[u16; Thread::COUNT])
-    requires { Columns (trace table.old) 3 table.old × Tails (trace table.old) tails.now }
-    ensures { Columns (trace table.old) 4 table.new }
-{
-    let n = table::count(table);
-    let mut last = [0u16; Event::OBJECTS];
-    for k in 1..n + 1 {
-        put_waits(table, k, tails, &mut last);
-    }
-}
+impl<'a> Pass for Waits<'a> {
+    ghost column = { 3 };
 
-// An acquire or release has how deep its lock is held before it. An acquire deepens the hold, a release undoes one level.
-fn put_depth(table: &mut [u16], k: usize, depth: &mut [u16; Event::OBJECTS])
-    requires { Turn Depths 4 k table.old depth.old }
-    ensures { Stepped Depths 4 k (k + 1) table.old table.new depth.new }
-{
-    let lock = table::object_place(table, k);
-    let kind = table::kind_at(table, k);
-    let deep = depth[lock];
-    if kind == Event::ACQUIRE {
-        table::set_word(table, k, table::DEPTH, deep);
-        depth[lock] = deep + 1;
-        return;
+    ghost list = { λ s. s.last };
+
+    ghost knows = { LastWrites };
+
+    ghost uses = { λ t s. Tails t s.tails.now };
+
+    ghost is_link = { Prim.search rules };
+
+    // A join is linked to the last event of the joined thread.
+    fn put(&mut self, table: &mut [u16], k: usize) {
+        if table::kind_at(table, k) != Event::JOIN {
+            put_observed(table, k, &mut self.last);
+            return;
+        }
+        let child = table::child_place(table, k);
+        table::set_word(table, k, table::WAITS, self.tails[child]);
     }
-    if kind == Event::RELEASE {
-        table::set_word(table, k, table::DEPTH, deep);
-        depth[lock] = deep - 1;
-        return;
-    }
-    table::set_word(table, k, table::DEPTH, 0);
 }
 
 // How deep each thread holds its lock before its acquires and releases. The count is by lock: in a good trace it is the thread's own.
-fn add_depths(table: &mut [u16])
-    requires { Columns (trace table.old) 4 table.old }
-    ensures { Columns (trace table.old) 5 table.new }
-{
-    let n = table::count(table);
-    let mut depth = [0u16; Event::OBJECTS];
-    for k in 1..n + 1 {
-        put_depth(table, k, &mut depth);
+#[derive(Drop)]
+struct Depth {
+    depth: [u16; Event::OBJECTS],
+}
+
+impl Pass for Depth {
+    ghost column = { 4 };
+
+    ghost list = { λ s. s.depth };
+
+    ghost knows = { Depths };
+
+    ghost is_link = { Prim.search rules };
+
+    // An acquire or release has how deep its lock is held before it. An acquire deepens the hold, a release undoes one level.
+    fn put(&mut self, table: &mut [u16], k: usize) {
+        let lock = table::object_place(table, k);
+        let kind = table::kind_at(table, k);
+        let deep = self.depth[lock];
+        if kind == Event::ACQUIRE {
+            table::set_word(table, k, table::DEPTH, deep);
+            self.depth[lock] = deep + 1;
+            return;
+        }
+        if kind == Event::RELEASE {
+            table::set_word(table, k, table::DEPTH, deep);
+            self.depth[lock] = deep - 1;
+            return;
+        }
+        table::set_word(table, k, table::DEPTH, 0);
     }
 }
 
@@ -213,60 +248,62 @@ fn access_began(table: &[u16], k: usize) -> u16
     0
 }
 
-// An outermost acquire begins a section, and is the last of its lock from then on; a last release is linked to the last one.
-fn put_began(table: &mut [u16], k: usize, taken: &mut [u16; Event::OBJECTS])
-    requires { Turn LastTaken 6 k table.old taken.old }
-    ensures { Stepped LastTaken 6 k (k + 1) table.old table.new taken.new }
-{
-    let lock = table::object_place(table, k);
-    if ends(table, k) {
-        table::set_word(table, k, table::BEGAN, taken[lock]);
-        return;
-    }
-    if begins(table, k) {
-        table::set_word(table, k, table::BEGAN, k as u16);
-        taken[lock] = k as u16;
-        return;
-    }
-    table::set_word(table, k, table::BEGAN, access_began(table, k));
-}
-
 // Where each event's interval begins.
-fn add_began(table: &mut [u16])
-    requires { Columns (trace table.old) 6 table.old }
-    ensures { Columns (trace table.old) 7 table.new }
-{
-    let n = table::count(table);
-    let mut taken = [0u16; Event::OBJECTS];
-    for k in 1..n + 1 {
-        put_began(table, k, &mut taken);
-    }
+#[derive(Drop)]
+struct Began {
+    taken: [u16; Event::OBJECTS],
 }
 
-// Event k is linked to the fork of its thread; a fork is that of the forked thread from then on.
-fn put_forked(table: &mut [u16], k: usize, forks: &mut [u16; Thread::COUNT])
-    requires { Turn Forks 7 k table.old forks.old }
-    ensures { Stepped Forks 7 k (k + 1) table.old table.new forks.new }
-{
-    let thread = table::thread_place(table, k);
-    if table::kind_at(table, k) == Event::FORK {
-        let child = table::child_place(table, k);
-        table::set_word(table, k, table::FORKED, forks[thread]);
-        forks[child] = k as u16;
-        return;
+impl Pass for Began {
+    ghost column = { 6 };
+
+    ghost list = { λ s. s.taken };
+
+    ghost knows = { LastTaken };
+
+    ghost is_link = { Prim.search rules };
+
+    // An outermost acquire begins a section, and is the last of its lock from then on; a last release is linked to the last one.
+    fn put(&mut self, table: &mut [u16], k: usize) {
+        let lock = table::object_place(table, k);
+        if ends(table, k) {
+            table::set_word(table, k, table::BEGAN, self.taken[lock]);
+            return;
+        }
+        if begins(table, k) {
+            table::set_word(table, k, table::BEGAN, k as u16);
+            self.taken[lock] = k as u16;
+            return;
+        }
+        table::set_word(table, k, table::BEGAN, access_began(table, k));
     }
-    table::set_word(table, k, table::FORKED, forks[thread]);
 }
 
 // The fork of each event's thread.
-fn add_forked(table: &mut [u16])
-    requires { Columns (trace table.old) 7 table.old }
-    ensures { Columns (trace table.old) 8 table.new }
-{
-    let n = table::count(table);
-    let mut forks = [0u16; Thread::COUNT];
-    for k in 1..n + 1 {
-        put_forked(table, k, &mut forks);
+#[derive(Drop)]
+struct Forked {
+    forks: [u16; Thread::COUNT],
+}
+
+impl Pass for Forked {
+    ghost column = { 7 };
+
+    ghost list = { λ s. s.forks };
+
+    ghost knows = { Forks };
+
+    ghost is_link = { Prim.search rules };
+
+    // Event k is linked to the fork of its thread; a fork is that of the forked thread from then on.
+    fn put(&mut self, table: &mut [u16], k: usize) {
+        let thread = table::thread_place(table, k);
+        if table::kind_at(table, k) == Event::FORK {
+            let child = table::child_place(table, k);
+            table::set_word(table, k, table::FORKED, self.forks[thread]);
+            self.forks[child] = k as u16;
+            return;
+        }
+        table::set_word(table, k, table::FORKED, self.forks[thread]);
     }
 }
 
@@ -277,13 +314,36 @@ fn fill(ev: &[u8], table: &mut [u16])
 {
     add_own(ev, table::OWN, table);
     add_own(ev, table::OBJECT, table);
-    let mut tails = [0u16; Thread::COUNT];
-    add_previous(table, &mut tails);
-    add_waits(table, &tails);
-    add_depths(table);
+    let mut previous = Previous {
+        last: [0; Thread::COUNT],
+    };
+    add(table, &mut previous);
+    add(
+        table,
+        &mut Waits {
+            last: [0; Event::OBJECTS],
+            tails: &previous.last,
+        },
+    );
+    add(
+        table,
+        &mut Depth {
+            depth: [0; Event::OBJECTS],
+        },
+    );
     add_released(table);
-    add_began(table);
-    add_forked(table);
+    add(
+        table,
+        &mut Began {
+            taken: [0; Event::OBJECTS],
+        },
+    );
+    add(
+        table,
+        &mut Forked {
+            forks: [0; Thread::COUNT],
+        },
+    );
 }
 
 // The table of a good trace, in the front of the lent area. Gives its length.

@@ -1,6 +1,6 @@
 use Rattle.std.proofs.Common.{rules}
 use Rattle.opening.proofs.StepLaws.{forked_more, forked_same}
-use Rattle.opening.proofs.put_forked.Goals as goal
+use Rattle.opening.proofs.ForkedPass.put.Goals as goal
 
 pub returns-then-kind_at-eq-FORK : goal.returns-then-kind_at-eq-FORK
 returns-then-kind_at-eq-FORK c = search (forked_more, rules)

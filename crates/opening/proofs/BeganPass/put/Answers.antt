@@ -1,6 +1,6 @@
 use Rattle.std.proofs.Common.{rules}
 use Rattle.opening.proofs.StepLaws.{began-columns, began_last, began_outermost, began-other}
-use Rattle.opening.proofs.put_began.Goals as goal
+use Rattle.opening.proofs.BeganPass.put.Goals as goal
 
 pub ends-requires : goal.ends-requires
 ends-requires c = search (began-columns, rules)
