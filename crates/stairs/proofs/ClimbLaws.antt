@@ -20,12 +20,12 @@ use Rattle.stairs.specs.Passes.{is_moved_next, Climbing}
 -- ---- whose event is next: the ways through `moved_next`
 
 module _ (need P Q : List ℕ) (i j : ℕ) where
-  pub next_over : length P ≤ i → false ≡ is_moved_next (at need) P Q i j
+  pub next_over : length P ≤ i → ltb i (length P) ≡ is_moved_next (at need) P Q i j
   unfolding is_moved_next
   next_over h = rw (le-ltb i (length P) h)
 
   module _ (h : i < length P) where
-    pub next-left : length Q ≤ j → true ≡ is_moved_next (at need) P Q i j
+    pub next-left : length Q ≤ j → leb (length Q) j ≡ is_moved_next (at need) P Q i j
     unfolding is_moved_next
     next-left b = rw (lt-ltb i (length P) h, le-leb (length Q) j b)
 
@@ -111,25 +111,38 @@ merging_start P Q need out = record { p_in = omega arith; q_in = omega arith; lo
 pub merging_stair : {P Q need out : List ℕ} → Climbing P Q need out → (j : ℕ) → j < length Q → at Q j < length need
 merging_stair {Q = Q} w j h = w.stairs (at Q j) (get_d_mem Q j h)
 
-module _ {P Q need out₀ : List ℕ} {i j : ℕ} {out : List ℕ} (p : Merging P Q need out₀ i j out) {b : Bool} (e : b ≡ is_moved_next (at need) P Q i j) where
-  pub merging_moved : b ≡ true → Merging P Q need out₀ (i + 1) j (set out (i + j) (at P i))
-  merging_moved f =
-      let h = next_in_lem (at need) P Q i j (sym e ∙ f) in
-      let a : i + 1 + j ≡ suc (i + j) = omega arith in
-      let c = rw (step_moved (at need) P Q i j (sym e ∙ f)) at p.whole in
-      record { p_in = omega arith; q_in = p.q_in; long = length-set out (i + j) (at P i) ∙ p.long; whole = rw a c }
+module _ {P Q need out₀ : List ℕ} {i j : ℕ} {out : List ℕ} (p : Merging P Q need out₀ i j out) (k : ℕ) (d : i + j ≡ k) where
+  module _ {b : Bool} (e : b ≡ is_moved_next (at need) P Q i j) where
+    pub merging_in : b ≡ true → i < length P
+    merging_in f = next_in_lem (at need) P Q i j (sym e ∙ f)
 
-  module _ (f : b ≡ false) where
-    pub merging_others : j < length Q → Merging P Q need out₀ i (j + 1) (set out (i + j) (at Q j))
-    merging_others h =
-        let a : i + (j + 1) ≡ suc (i + j) = omega arith in
-        let c = rw (step_others (at need) P Q i j (sym e ∙ f) h) at p.whole in
-        record { p_in = p.p_in; q_in = omega arith; long = length-set out (i + j) (at Q j) ∙ p.long; whole = rw a c }
+    pub merging_moved : b ≡ true → Merging P Q need out₀ (i + 1) j (set out k (at P i)) × (i + 1 + j ≡ k + 1)
+    merging_moved f =
+        let h = merging_in f in
+        let a : i + 1 + j ≡ suc (i + j) = omega arith in
+        let c = rw (step_moved (at need) P Q i j (sym e ∙ f)) at p.whole in
+        rw (← d) (record { p_in = omega arith; q_in = p.q_in; long = length-set out (i + j) (at P i) ∙ p.long; whole = rw a c }, omega arith)
 
-    pub merging_end : Climbing P Q need out₀ → j ≡ length Q → out ≡ in_front (climb (at need) P Q) out₀
-    merging_end w d =
-        let h : length Q ≤ j = omega arith in
-        let a = next-none (at need) P Q i j (sym e ∙ f) h in
-        let c = rw (drop_of_length-le P {i = i} a, drop_of_length-le Q {i = j} h, climb-none (at need) []) at p.whole in
-        let l = climb-length (at need) P Q in
-        let r = w.room in c ∙ sets_front (climb (at need) P Q) out₀ (omega arith)
+    module _ (f : b ≡ false) (l : k < length P + length Q) where
+      pub merging_left : j < length Q
+      merging_left =
+          let a = p.p_in in
+          by_cases (ltb j (length Q)) (λ g. ltb-true j (length Q) g) (λ g.
+          let h = ltb-false j (length Q) g in
+          let n = next-none (at need) P Q i j (sym e ∙ f) h in
+          absurd (let c = p.q_in in omega arith))
+
+      pub merging_others : Merging P Q need out₀ i (j + 1) (set out k (at Q j)) × (i + (j + 1) ≡ k + 1)
+      merging_others =
+          let h = merging_left in
+          let a : i + (j + 1) ≡ suc (i + j) = omega arith in
+          let c = rw (step_others (at need) P Q i j (sym e ∙ f) h) at p.whole in
+          rw (← d) (record { p_in = p.p_in; q_in = omega arith; long = length-set out (i + j) (at Q j) ∙ p.long; whole = rw a c }, omega arith)
+
+  pub merging_end : Climbing P Q need out₀ → length P + length Q ≤ k → out ≡ in_front (climb (at need) P Q) out₀
+  merging_end w l =
+      let x = p.p_in in
+      let y = p.q_in in
+      let c = rw (drop_of_length-le P {i = i} (omega arith), drop_of_length-le Q {i = j} (omega arith), climb-none (at need) []) at p.whole in
+      let n = climb-length (at need) P Q in
+      let r = w.room in c ∙ sets_front (climb (at need) P Q) out₀ (omega arith)

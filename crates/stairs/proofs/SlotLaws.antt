@@ -1,5 +1,5 @@
 -- The slots, and what is reached on them as the events of P pass.
-use Prim.Native.Nat.{ℕ, zero, suc, ◌+◌, ◌≤◌, ◌<◌}
+use Prim.Native.Nat.{ℕ, zero, suc, ◌+◌, ◌≤◌, ◌<◌, max}
 use native.Mathlib.Omega.{arith}
 use mathlib.Core.Path.{◌≡◌, refl, sym, ◌∙◌}
 use mathlib.Core.Logic.{◌≢◌}
@@ -32,17 +32,14 @@ module _ (t : Trace) (ends : List ℕ) (v : ℕ) (reach : List ℕ) where
   note_none z = record { long = refl; grows = λ s. omega arith; above = omega arith; least = λ s b c f. c }
 
   module _ (s : ℕ) (e : s ≡ slot_of t v) where
-    pub note_under : at ends v ≤ at reach s → Noted t ends v reach reach
-    note_under b = record { long = refl; grows = λ s. omega arith; above = rw e at b; least = λ s b c f. c }
-
-    pub note_over : s < slots → length reach ≡ slots → at reach s < at ends v → Noted t ends v reach (set reach s (at ends v))
-    note_over h w b =
+    pub note_up : s < slots → length reach ≡ slots → (m : ℕ) → m ≡ max (at reach s) (at ends v) → Noted t ends v reach (set reach s m)
+    note_up h w m em =
         let l : s < length reach = omega arith in
         record {
-          long = length-set reach s (at ends v);
-          grows = set_grows reach s (at ends v) l (omega arith);
-          above = at_set (λ x. at ends v ≤ x) reach s (at ends v) (slot_of t v) l (λ q. omega arith) (λ q. absurd (q (sym e)));
-          least = λ x c d f. at_set (λ y. y ≤ c) reach s (at ends v) x l (λ q. f (sym (q ∙ e))) (λ q. d);
+          long = length-set reach s m;
+          grows = set_grows reach s m l (omega arith);
+          above = at_set (λ x. at ends v ≤ x) reach s m (slot_of t v) l (λ q. omega arith) (λ q. absurd (q (sym e)));
+          least = λ x c d f. at_set (λ y. y ≤ c) reach s m x l (λ q. let a = f (sym (q ∙ e)) in let b = rw q at d in omega arith) (λ q. d);
         }
 
 -- ---- the events of P pass
@@ -67,25 +64,28 @@ upto_further u r h =
     record { long = u.long; few = u.few; under = λ k b. let a = u.under k b in omega arith; above = u.above; least = u.least }
 
 module _ {s P ends : List ℕ} {i n : ℕ} {reach : List ℕ} (m : Moved s P ends) (u : Upto (trace s) P ends i n reach) where
-  pub advance_end : length P ≤ i → Reached (trace s) P ends i n reach
-  advance_end h = record { upto = u; over = λ k a b. absurd (omega arith) }
+  pub advance_end : length P ≤ i → Reached (trace s) P ends (length P) n reach
+  advance_end h =
+      let f = u.few in
+      let e : i ≡ length P = omega arith in
+      rw (← e) (record { upto = u; over = λ k a b. absurd (omega arith) })
+
+  pub advance_stop : n < at P i → Reached (trace s) P ends i n reach
+  advance_stop b =
+      record {
+        upto = u;
+        over = λ k a c. equal_or_not k i (λ q. rw q (omega arith)) (λ q. let d = place_up P m.up i k (omega arith) c in omega arith);
+      }
 
   module _ (h : i < length P) (v : ℕ) (e : v ≡ at P i) where
-    pub advance_stop : (x : ℕ) → x ≡ n → x < v → Reached (trace s) P ends i n reach
-    advance_stop x f b =
-        record {
-          upto = u;
-          over = λ k a c. equal_or_not k i (λ q. rw q (omega arith)) (λ q. let d = place_up P m.up i k (omega arith) c in omega arith);
-        }
-
     pub advance_valid : Valid (trace s) v
     advance_valid = rw e (m.valid (at P i) (get_d_mem P i h))
 
     pub advance_room : v < length ends
     advance_room = let a = advance_valid in let b = m.room in omega arith
 
-    pub advance_more : (x : ℕ) → x ≡ n → v ≤ x → {reach' : List ℕ} → Noted (trace s) ends v reach reach' → Upto (trace s) P ends (i + 1) n reach'
-    advance_more x f b q =
+    pub advance_more : at P i ≤ n → {reach' : List ℕ} → Noted (trace s) ends v reach reach' → Upto (trace s) P ends (i + 1) n reach'
+    advance_more b q =
         let z = rw e at q in
         record {
           long = z.long ∙ u.long;

@@ -9,7 +9,7 @@ ghost use Rattle.model.specs.Good.{Good};
 ghost use Rattle.decision.specs.Stairs.{climb};
 ghost use Rattle.table.specs.Table.{trace, Linked};
 ghost use Rattle.stairs.specs.Stairs.{at, slot_of, slots, Ready, Solved};
-ghost use Rattle.stairs.specs.Passes.{Larger, Moved, Noted, Upto, Reached, Met, Begun, asked, Pulled, Passed, is_moved_next, Climbing};
+ghost use Rattle.stairs.specs.Passes.{Moved, Noted, Upto, Reached, Met, Begun, asked, Pulled, Passed, is_moved_next, Climbing};
 
 use limits::Event;
 use table::wide;
@@ -30,16 +30,6 @@ fn slot(table: &[u16], k: usize) -> usize
     x
 }
 
-// The larger of two numbers.
-fn larger(a: u16, b: u16) -> u16
-    ensures { Larger a b result }
-{
-    if a < b {
-        return b;
-    }
-    a
-}
-
 // Event v of p passes: its slot is reached up to the end of the interval that it begins.
 fn note(table: &[u16], ends: &[u16], reach: &mut [u16; SLOTS], v: usize)
     requires good { Good (trace table.now) × Valid (trace table.now) v }
@@ -51,9 +41,7 @@ fn note(table: &[u16], ends: &[u16], reach: &mut [u16; SLOTS], v: usize)
         return;
     }
     let s = slot(table, v);
-    if reach[s] < end {
-        reach[s] = end;
-    }
+    reach[s] = reach[s].max(end);
 }
 
 // The events of p from place `from` on that are not above event `to` pass. Gives the place of the first that is.
@@ -68,16 +56,13 @@ fn advance(
     requires { Moved table.now p.now ends.now × Upto (trace table.now) p.now ends.now from to reach.old }
     ensures { Reached (trace table.now) p.now ends.now result to reach.new }
 {
-    let mut i = from;
-    while i < p.len() {
-        let v = wide(p[i]);
-        if wide(to) < v {
+    for i in from..p.len() {
+        if to < p[i] {
             return i;
         }
-        note(table, ends, reach, v);
-        i += 1;
+        note(table, ends, reach, wide(p[i]));
     }
-    i
+    p.len()
 }
 
 // Event k of q, where p passed up to event n: it needs as much, and p passes as far as it needs.
@@ -85,7 +70,7 @@ fn meet(need: &mut [u16], k: usize, n: u16) -> u16
     requires { k < length need.old }
     ensures { Met k n need.old result need.new }
 {
-    let r = larger(n, need[k]);
+    let r = n.max(need[k]);
     need[k] = r;
     r
 }
@@ -96,10 +81,7 @@ fn begun(table: &[u16], m: u8, k: usize) -> usize
     ensures { Begun (trace table.now) m k result }
 {
     let o = table::began_at(table, k);
-    if o == 0 {
-        return 0;
-    }
-    if table::thread_at(table, o) == m {
+    if o == 0 || table::thread_at(table, o) == m {
         return 0;
     }
     o
@@ -138,6 +120,7 @@ fn pass(table: &[u16], m: u8, p: &[u16], q: &[u16], ends: &[u16], need: &mut [u1
     let mut n = 0u16;
     let mut raised = false;
     let mut j = 0;
+    // A `while`: an event may be met again, so not each turn goes on to the next place.
     while j < q.len() {
         let k = wide(q[j]);
         n = meet(need, k, n);
@@ -167,13 +150,7 @@ fn moved_next(p: &[u16], q: &[u16], need: &[u16], i: usize, j: usize) -> bool
     requires { j < length q.now → at q.now j < length need.now }
     ensures { result ≡ is_moved_next (at need.now) p.now q.now i j }
 {
-    if p.len() <= i {
-        return false;
-    }
-    if q.len() <= j {
-        return true;
-    }
-    p[i] <= need[wide(q[j])]
+    i < p.len() && (q.len() <= j || p[i] <= need[wide(q[j])])
 }
 
 // The merge of p and q by the staircase, in front of the lent list; the rest of the list stays.
@@ -183,16 +160,13 @@ pub fn climb(p: &[u16], q: &[u16], need: &[u16], out: &mut [u16])
 {
     let mut i = 0;
     let mut j = 0;
-    loop {
+    for k in 0..p.len() + q.len() {
         if moved_next(p, q, need, i, j) {
-            out[i + j] = p[i];
+            out[k] = p[i];
             i += 1;
-            continue;
+        } else {
+            out[k] = q[j];
+            j += 1;
         }
-        if j == q.len() {
-            return;
-        }
-        out[i + j] = q[j];
-        j += 1;
     }
 }

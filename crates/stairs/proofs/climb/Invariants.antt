@@ -1,10 +1,7 @@
-use Prim.Native.Nat.{◌+◌, ◌-◌}
-use lib.ListN.{length}
+use mathlib.Core.Path.{◌≡◌}
+use Prim.Native.Nat.{◌+◌}
 use Rattle.stairs.proofs.ClimbLaws.{Merging}
 use Rattle.stairs.proofs.climb.Given as goal
 
-abbrev pub invariant-loop-out : goal.invariant-loop-out
-invariant-loop-out l = Merging l.p l.q l.need l.initial.out l.i l.j l.out
-
-abbrev pub decreases-loop-out : goal.decreases-loop-out
-decreases-loop-out l = length l.p + length l.q - (l.i + l.j)
+abbrev pub invariant-loop-k : goal.invariant-loop-k
+invariant-loop-k l = Merging l.p l.q l.need l.initial.out l.i l.j l.out × (l.i + l.j ≡ l.k)
