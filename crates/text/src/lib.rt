@@ -1,84 +1,70 @@
-// The text that a program reads and writes: numbers of a line; and words, numbers and refusals on standard output.
+// The text that a program reads and writes: the numbers of a line, and pairs and lists on standard output.
 #![tactic(auto)]
 
 ghost use Rattle.std.specs.Prelude.{ℕ, ◌≡◌, ◌≢◌, ◌≤◌, ◌<◌, min, length, slice_index};
 
-use limits::{EventNumber, Refusal};
+use std::io;
 
-// The first place from `from` on that holds `stop`, or the end.
+// The first place that holds `stop`, or the end.
+fn first(text: &[u8], stop: u8) -> usize
+    ensures within { result ≤ length text.now }
+    ensures before { (k : ℕ) → k < result → slice_index text.now k ≢ stop }
+    ensures found { result < length text.now → slice_index text.now result ≡ stop }
+{
+    for (k, b) in text.iter().enumerate() {
+        if *b == stop {
+            return k;
+        }
+    }
+    text.len()
+}
+
+// The same from `from` on.
 pub fn until(text: &[u8], from: usize, stop: u8) -> usize
     requires { from ≤ length text.now }
     ensures within { (from ≤ result) × (result ≤ length text.now) }
     ensures before { (k : ℕ) → from ≤ k → k < result → slice_index text.now k ≢ stop }
     ensures found { result < length text.now → slice_index text.now result ≡ stop }
 {
-    let mut e = from;
-    while e < text.len() {
-        if text[e] == stop {
-            return e;
-        }
-        e += 1;
-    }
-    e
+    from + first(&text[from..], stop)
 }
 
-fn digit(c: u8) -> u8
+fn digit(c: u8) -> usize
     ensures { result < 10 }
 {
     match c {
-        b'0'..=b'9' => c - b'0',
+        b'0'..=b'9' => (c - b'0') as usize,
         _ => 0,
     }
 }
 
-// The number n with one more digit, up to five; a space begins a number anew.
+// The number n with one more digit, up to five. A space ends a number, and is none.
 fn with_digit(n: usize, c: u8) -> usize {
-    if c == b' ' {
-        return 0;
-    }
-    if 10000 <= n {
+    if c == b' ' || 10000 <= n {
         return n;
     }
-    n * 10 + digit(c) as usize
+    n * 10 + digit(c)
 }
 
-// The last number of a text.
-fn decimal(text: &[u8]) -> usize {
-    let mut n = 0;
-    let mut i = 0;
-    while i < text.len() {
-        n = with_digit(n, text[i]);
-        i += 1;
-    }
-    n
-}
-
-fn short(n: usize) -> u16 {
-    if 65535 < n {
-        return 65535;
-    }
-    n as u16
+// The number that a word stands for, where that fits.
+fn short(word: &[u8]) -> u16 {
+    let n = word.iter().fold(0, |n, c| with_digit(n, *c));
+    u16::try_from(n).unwrap_or(u16::MAX)
 }
 
 // The numbers of a line, in the front of a list; how many there are.
 pub fn numbers(line: &[u8], list: &mut [u16]) -> usize
     ensures { result ≤ length list.old }
 {
-    let mut m = 0;
-    let mut i = 0;
-    while i < line.len() {
-        if m == list.len() {
-            return m;
+    let mut n = 0;
+    for word in line.split_inclusive(|b| *b == b' ') {
+        if n == list.len() {
+            return n;
         }
-        let e = until(line, i, b' ');
-        list[m] = short(decimal(&line[i..e]));
-        m += 1;
-        if e == line.len() {
-            return m;
-        }
-        i = e + 1;
+        list[n] = short(word);
+        n += 1;
     }
-    m
+    n
 }
 
 // The lower of two numbers.
@@ -86,62 +72,13 @@ pub fn at_most(n: usize, most: usize) -> usize
     ensures within { result ≤ most }
     ensures value { result ≡ min n most }
 {
-    if most < n {
-        return most;
+    n.min(most)
+}
+
+// Numbers, each after a space.
+pub fn list<P: Print>(out: &P, numbers: &[u16]) -> io::Result<()> {
+    for k in numbers {
+        print!(out; " {k}")?;
     }
-    n
-}
-
-// ---- what is written; where a write fails, nothing is said of it
-
-pub fn word<P: Print>(out: &P, text: &[u8]) {
-    let _ = out.write_all(text);
-}
-
-pub fn byte<P: Print>(out: &P, b: u8) {
-    let one = [b];
-    word(out, &one);
-}
-
-fn number<P: Print>(out: &P, n: u64) {
-    let _ = out.print(n);
-}
-
-// A number after a word.
-pub fn count<P: Print>(out: &P, text: &[u8], n: u64) {
-    word(out, text);
-    number(out, n);
-}
-
-pub fn refused<P: Print>(out: &P, r: Refusal) {
-    count(out, b"refused ", r.number() as u64);
-    match r.event() {
-        EventNumber::Absent => {}
-        EventNumber::At(k) => count(out, b" at ", k as u64),
-    }
-}
-
-// Two event numbers, as in a pair.
-pub fn pair<P: Print>(out: &P, a: u16, b: u16) {
-    number(out, a as u64);
-    entry(out, b);
-}
-
-// A number after a space.
-fn entry<P: Print>(out: &P, k: u16) {
-    byte(out, b' ');
-    number(out, k as u64);
-}
-
-// The first n numbers of a list, each after a space.
-pub fn list<P: Print>(out: &P, l: &[u16], n: u16) {
-    let end = n as usize;
-    let mut i = 0;
-    while i < l.len() {
-        if i == end {
-            return;
-        }
-        entry(out, l[i]);
-        i += 1;
-    }
+    Ok(())
 }
