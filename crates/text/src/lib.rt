@@ -75,9 +75,9 @@ pub fn at_most(n: usize, most: usize) -> usize
     n.min(most)
 }
 
-// Numbers, each after a space.
-pub fn list<P: Print>(out: &P, numbers: &[u16]) -> io::Result<()> {
-    for k in numbers {
+// The first n numbers of a list, each after a space.
+pub fn list<P: Print>(out: &P, numbers: &[u16], n: u16) -> io::Result<()> {
+    for k in numbers.iter().take(n as usize) {
         print!(out; " {k}")?;
     }
     Ok(())
