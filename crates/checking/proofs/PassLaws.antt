@@ -24,10 +24,15 @@ use Rattle.table.specs.Links.{last_of, release_of, previous, waits_for, fork_of}
 use Rattle.table.specs.Entries.{Entries}
 use Rattle.table.proofs.LinkFacts.{nearest_last, last_release, reads_observed, last_joined, joined_last, joined_thread, waits_less, fork_less, fork_awaited, fork-only}
 use Rattle.table.proofs.EntryLaws.{entries-same, entries_put}
-use Rattle.checking.specs.Passing.{KnowsMore, Knows, NextTold, PassedTold, ReadyTold, EnabledTold, access_fault, AccessTold, FaultTold}
+use Rattle.checking.specs.Passing.{KnowsMore, Knows, NextTold, PassedTold, ReadyTold, access_fault, AccessTold, FaultTold}
 use Rattle.model.specs.Lists.{◌∈◌, up_to, before, keep, nearest, listed, own, just}
 use Rattle.decision.specs.Check.{is_next, is_seen, is_free, is_ready, place_tests, place_fault, first_of}
 use Rattle.model.specs.Rows.{first, or_zero}
+use Rattle.std.specs.Prelude.{Result, Ok, Err}
+use Rattle.checking.specs.Faults.{number_of, fault_number}
+use Rattle.checking.proofs.FaultLaws.{numbered}
+use Rattle.checking.specs.declared.Fault.{Fault}
+use Rattle.checking.specs.declared.Fault.TheVariants.{NoEvent, NotNext, SeesOtherwise, LockHeld, NotReady}
 
 -- ---- the trace's events that pass a test are told by the latest of them
 
@@ -175,13 +180,6 @@ module _ {t : Trace} (g : Good t) {k : ℕ} (v : Valid t k) {last : List ℕ} {o
               let th : thread_of t u ≡ thread_of t j = rw (← eu) at (joined_thread t k f nz) ∙ sym c in
               upto_last t h (knows_legal q) j vj (let z : u ≤ last_of t h (thread_of t j) = rw th at top in omega arith)
 
-module _ {t : Trace} {last : List ℕ} {k : ℕ} {b : Bool} (a : NextTold t last k b) where
-  pub enabled_not : not b ≡ true → EnabledTold t last k false
-  enabled_not e = record { is = λ h writes locks q. rw (sym (a.is h writes locks q) ∙ not-true b e) }
-
-  pub enabled_ready : not b ≡ false → {r : Bool} → ReadyTold t last k r → EnabledTold t last k r
-  enabled_ready e x = record { is = λ h writes locks q. rw (sym (a.is h writes locks q) ∙ not-false b e) (x.is h writes locks q) }
-
 -- ---- what an event does to the lists
 
 module _ (t : Trace) (k : ℕ) (last writes locks : List ℕ) (c : ℕ) (ec : c ≡ thread_of t k) (lc : c ≤ max_thread) (x : ℕ) (ex : x ≡ object_of t k) (lx : x ≤ max_object) (d : ℕ) (ed : d ≡ kind_of t k) where
@@ -279,7 +277,7 @@ module _ (t : Trace) (k : ℕ) (last writes locks : List ℕ) (c : ℕ) (ec : c 
 
 module _ (t : Trace) (k : ℕ) (writes locks : List ℕ) (x : ℕ) (ex : x ≡ object_of t k) (lx : x ≤ max_object) (d : ℕ) (ed : d ≡ kind_of t k) where
   -- what it sees, and whether its lock is free
-  remain : (r : ℕ) → ((h last : List ℕ) → Knows t h last writes locks → r ≡ or_zero (first ((eqb (kind_of t k) read && not (is_seen t h k)) ∷ (eqb (kind_of t k) acquire && not (is_free t h k)) ∷ []) (23 ∷ 24 ∷ []))) → AccessTold t writes locks k r
+  remain : (r : Result (Unit {0}) Fault) → ((h last : List ℕ) → Knows t h last writes locks → fault_number r ≡ or_zero (first ((eqb (kind_of t k) read && not (is_seen t h k)) ∷ (eqb (kind_of t k) acquire && not (is_free t h k)) ∷ []) (23 ∷ 24 ∷ []))) → AccessTold t writes locks k r
   unfolding access_fault place_tests
   remain r f = record { is = λ h last q. f h last q }
 
@@ -290,11 +288,11 @@ module _ (t : Trace) (k : ℕ) (writes locks : List ℕ) (x : ℕ) (ex : x ≡ o
     sees : {h last : List ℕ} → Knows t h last writes locks → w ≡ last_write t (object_of t k) h
     sees {h} q = ew ∙ q.cells.is x lx ∙ ap (λ (y : ℕ). last_write t y h) ex
 
-    pub sees-same : w ≡ o → AccessTold t writes locks k 0
-    sees-same f = remain 0 (λ h last q. rw (reads, true_seen t h k (sym (sees q) ∙ f ∙ eo ∙ reads_observed t k reads)))
+    pub sees-same : w ≡ o → AccessTold t writes locks k (Ok tt)
+    sees-same f = remain (Ok tt) (λ h last q. rw (reads, true_seen t h k (sym (sees q) ∙ f ∙ eo ∙ reads_observed t k reads)))
 
-    pub sees-other : (w ≡ o → ⊥) → AccessTold t writes locks k 23
-    sees-other f = remain 23 (λ h last q. rw (reads, false_test (seen_true t h k) (λ z. f (sees q ∙ z ∙ sym (eo ∙ reads_observed t k reads)))))
+    pub sees-other : (w ≡ o → ⊥) → AccessTold t writes locks k (Err SeesOtherwise)
+    sees-other f = remain (Err SeesOtherwise) (λ h last q. rw (reads, false_test (seen_true t h k) (λ z. f (sees q ∙ z ∙ sym (eo ∙ reads_observed t k reads)))))
 
   module _ (unread : d ≡ read → ⊥) where
     module _ (e : d ≡ acquire) where
@@ -304,23 +302,23 @@ module _ (t : Trace) (k : ℕ) (writes locks : List ℕ) (x : ℕ) (ex : x ≡ o
       held_by : {h last : List ℕ} → Knows t h last writes locks → get_or locks x 0 ≡ holder t (object_of t k) h
       held_by {h} q = q.holders.is x lx ∙ ap (λ (y : ℕ). holder t y h) ex
 
-      may_take : ((h last : List ℕ) → Knows t h last writes locks → Free t h k) → AccessTold t writes locks k 0
-      may_take f = remain 0 (λ h last q. rw (takes, true_free t h k (f h last q)))
+      may_take : ((h last : List ℕ) → Knows t h last writes locks → Free t h k) → AccessTold t writes locks k (Ok tt)
+      may_take f = remain (Ok tt) (λ h last q. rw (takes, true_free t h k (f h last q)))
 
-      pub lock_free : get_or locks x 0 ≡ 0 → AccessTold t writes locks k 0
+      pub lock_free : get_or locks x 0 ≡ 0 → AccessTold t writes locks k (Ok tt)
       lock_free f = may_take (λ h last q. inl (sym (held_by q) ∙ f))
 
       module _ (taken : get_or locks x 0 ≡ 0 → ⊥) (c : ℕ) (ec : c ≡ thread_of t k) where
-        pub lock-own : get_or locks x 0 ≡ c + 1 → AccessTold t writes locks k 0
+        pub lock-own : get_or locks x 0 ≡ c + 1 → AccessTold t writes locks k (Ok tt)
         lock-own f = may_take (λ h last q. inr (let y = held_by q in omega arith))
 
-        pub lock_taken : (get_or locks x 0 ≡ c + 1 → ⊥) → AccessTold t writes locks k 24
+        pub lock_taken : (get_or locks x 0 ≡ c + 1 → ⊥) → AccessTold t writes locks k (Err LockHeld)
         lock_taken f =
-            remain 24 (λ h last q.
+            remain (Err LockHeld) (λ h last q.
             rw (takes, false_test (free_true t h k) (λ z. ⊎_elim (λ u. taken (held_by q ∙ u)) (λ u. f (let y = held_by q in omega arith)) z)))
 
-    pub no_access : (d ≡ acquire → ⊥) → AccessTold t writes locks k 0
-    no_access f = remain 0 (λ h last q. rw (ne_eqb (kind_of t k) read (λ z. unread (ed ∙ z)), ne_eqb (kind_of t k) acquire (λ z. f (ed ∙ z))))
+    pub no_access : (d ≡ acquire → ⊥) → AccessTold t writes locks k (Ok tt)
+    no_access f = remain (Ok tt) (λ h last q. rw (ne_eqb (kind_of t k) read (λ z. unread (ed ∙ z)), ne_eqb (kind_of t k) acquire (λ z. f (ed ∙ z))))
 
 -- ---- any number
 
@@ -332,22 +330,22 @@ pub number_valid : (t : Trace) (k : ℕ) → 1 ≤ k → (n : ℕ) → n ≡ len
 number_valid t k p n e f = record { positive = p; bounded = omega arith }
 
 module _ (t : Trace) (k : ℕ) (last writes locks : List ℕ) where
-  no_number : ¬ Valid t k → FaultTold t last writes locks k 21
+  no_number : ¬ Valid t k → FaultTold t last writes locks k (Err NoEvent)
   unfolding place_fault place_tests
   no_number n = record { is = λ h q. rw (false_test (valid_true t k) n) }
 
-  pub number_low : k < 1 → FaultTold t last writes locks k 21
+  pub number_low : k < 1 → FaultTold t last writes locks k (Err NoEvent)
   number_low f = no_number (λ v. let p = v.positive in omega arith)
 
-  pub number_high : (n : ℕ) → n ≡ length t → n < k → FaultTold t last writes locks k 21
+  pub number_high : (n : ℕ) → n ≡ length t → n < k → FaultTold t last writes locks k (Err NoEvent)
   number_high n e f = no_number (λ v. let p = v.bounded in omega arith)
 
 module _ {t : Trace} {last : List ℕ} {k : ℕ} {b : Bool} (a : NextTold t last k b) (writes locks : List ℕ) where
-  pub not-next : Valid t k → not b ≡ true → FaultTold t last writes locks k 22
+  pub not-next : Valid t k → not b ≡ true → FaultTold t last writes locks k (Err NotNext)
   unfolding place_fault place_tests
   not-next v e = record { is = λ h q. rw (true_valid t k v, sym (a.is h writes locks q) ∙ not-true b e) }
 
-  module _ (v : Valid t k) (e : not b ≡ false) {r : ℕ} (x : AccessTold t writes locks k r) where
+  module _ (v : Valid t k) (e : not b ≡ false) where
     -- the fault of an event that is the next of its thread: 23 or 24, and then 27
     of_next_lem : (h : List ℕ) → Knows t h last writes locks → place_fault t h k ≡ first_of (access_fault t h k) (or_zero (first (not (is_ready t h k) ∷ []) (27 ∷ [])))
     unfolding place_fault place_tests access_fault
@@ -356,12 +354,12 @@ module _ {t : Trace} {last : List ℕ} {k : ℕ} {b : Bool} (a : NextTold t last
         (by_cases (eqb (kind_of t k) read && not (is_seen t h k)) (λ y. rw y refl) (λ y.
         by_cases (eqb (kind_of t k) acquire && not (is_free t h k)) (λ z. rw (y, z) refl) (λ z. rw (y, z) refl)))
 
-    pub access_found : (r ≡ 0 → ⊥) → FaultTold t last writes locks k r
-    access_found ne = record { is = λ h q. let s = x.is h last q in first_nonzero r _ ne ∙ ap (λ (n : ℕ). first_of n (or_zero (first (not (is_ready t h k) ∷ []) (27 ∷ [])))) s ∙ sym (of_next_lem h q) }
+    pub access_found : (f : Fault) → AccessTold t writes locks k (Err f) → FaultTold t last writes locks k (Err f)
+    access_found f x = record { is = λ h q. let s = x.is h last q in first_nonzero (number_of f) _ (numbered f) ∙ ap (λ (n : ℕ). first_of n (or_zero (first (not (is_ready t h k) ∷ []) (27 ∷ [])))) s ∙ sym (of_next_lem h q) }
 
-    module _ (z : r ≡ 0) {c : Bool} (y : ReadyTold t last k c) where
-      pub not_ready : not c ≡ true → FaultTold t last writes locks k 27
-      not_ready n = record { is = λ h q. sym (of_next_lem h q ∙ rw (sym (x.is h last q) ∙ z, sym (y.is h writes locks q) ∙ not-true c n)) }
+    module _ {u : Unit {0}} (x : AccessTold t writes locks k (Ok u)) {c : Bool} (y : ReadyTold t last k c) where
+      pub not_ready : not c ≡ true → FaultTold t last writes locks k (Err NotReady)
+      not_ready n = record { is = λ h q. sym (of_next_lem h q ∙ rw (sym (x.is h last q), sym (y.is h writes locks q) ∙ not-true c n)) }
 
-      pub no_fault : not c ≡ false → FaultTold t last writes locks k 0
-      no_fault n = record { is = λ h q. sym (of_next_lem h q ∙ rw (sym (x.is h last q) ∙ z, sym (y.is h writes locks q) ∙ not-false c n)) }
+      pub no_fault : not c ≡ false → FaultTold t last writes locks k (Ok tt)
+      no_fault n = record { is = λ h q. sym (of_next_lem h q ∙ rw (sym (x.is h last q), sym (y.is h writes locks q) ∙ not-false c n)) }

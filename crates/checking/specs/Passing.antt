@@ -1,5 +1,5 @@
 -- What the pass over a proposed list keeps of the events that have been passed, and what its parts say by it.
-use Rattle.std.specs.Prelude.{ℕ, ◌≡◌, Bool, ◌&&◌, ◌||◌, List, [], ◌∷◌, reverse, take, drop, eqb}
+use Rattle.std.specs.Prelude.{ℕ, ◌≡◌, Bool, ◌&&◌, ◌||◌, List, [], ◌∷◌, reverse, take, drop, eqb, Result}
 use Rattle.model.specs.Trace.{Trace}
 use Rattle.model.specs.Lists.{listed}
 use Rattle.model.specs.Observed.{last_write}
@@ -9,6 +9,8 @@ use Rattle.model.specs.Rows.{first, or_zero}
 use Rattle.decision.specs.Check.{is_next, is_ready, place_tests, place_fault, fault_from}
 use Rattle.table.specs.Links.{last_of}
 use Rattle.table.specs.Entries.{Entries}
+use Rattle.checking.specs.declared.Fault.{Fault}
+use Rattle.checking.specs.Faults.{fault_number}
 
 -- what is kept: the last event of each thread, the last write of each cell and the holder of each lock, in the history of a correct reordering
 pub record Knows (t : Trace) (h last writes locks : List ℕ) : Type 0 where
@@ -39,18 +41,18 @@ pub record EnabledTold (t : Trace) (last : List ℕ) (k : ℕ) (r : Bool) : Type
 unfoldable pub access_fault : Trace → List ℕ → ℕ → ℕ
 access_fault t h k = or_zero (first (take 2 (drop 2 (place_tests t h k))) (23 ∷ 24 ∷ []))
 
-pub record AccessTold (t : Trace) (writes locks : List ℕ) (k r : ℕ) : Type 0 where
-  pub is : (h last : List ℕ) → Knows t h last writes locks → r ≡ access_fault t h k
+pub record AccessTold (t : Trace) (writes locks : List ℕ) (k : ℕ) (r : Result (Unit {0}) Fault) : Type 0 where
+  pub is : (h last : List ℕ) → Knows t h last writes locks → fault_number r ≡ access_fault t h k
 
 -- the fault of any number: 21 to 24, or 27
-pub record FaultTold (t : Trace) (last writes locks : List ℕ) (k r : ℕ) : Type 0 where
-  pub is : (h : List ℕ) → Knows t h last writes locks → r ≡ place_fault t h k
+pub record FaultTold (t : Trace) (last writes locks : List ℕ) (k : ℕ) (r : Result (Unit {0}) Fault) : Type 0 where
+  pub is : (h : List ℕ) → Knows t h last writes locks → fault_number r ≡ place_fault t h k
 
 -- event k, which has no fault, goes into the lists: they know one event more
 pub record KnowsMore (t : Trace) (k : ℕ) (last writes locks last' writes' locks' : List ℕ) : Type 0 where
   pub knows : (h : List ℕ) → Knows t h last writes locks → place_fault t h k ≡ 0 → Knows t (k ∷ h) last' writes' locks'
 
 -- the first fault of a list by place; where there is none, the lists know all its events
-pub record Walked (t : Trace) (list : List ℕ) (r : ℕ) (last writes locks : List ℕ) : Type 0 where
-  pub says : r ≡ fault_from t [] list
-  pub knows : r ≡ 0 → Knows t (reverse list) last writes locks
+pub record Walked (t : Trace) (list : List ℕ) (r : Result (Unit {0}) Fault) (last writes locks : List ℕ) : Type 0 where
+  pub says : fault_number r ≡ fault_from t [] list
+  pub knows : fault_number r ≡ 0 → Knows t (reverse list) last writes locks

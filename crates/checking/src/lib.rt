@@ -8,32 +8,46 @@ ghost use Rattle.std.proofs.Math.Option.{none};
 ghost use Rattle.model.specs.Trace.{Valid};
 ghost use Rattle.decision.specs.Check.{is_correct, check};
 ghost use Rattle.table.specs.Table.{trace, Linked};
+ghost use Rattle.checking.specs.Faults.{number_of, fault_number};
 ghost use Rattle.checking.specs.Checking.{check_in};
 ghost use Rattle.checking.specs.Passing.{Knows, NextTold, PassedTold, ReadyTold, EnabledTold, AccessTold, FaultTold, KnowsMore, Walked};
 
 use limits::{Event, Locks, Refusal, Thread};
 
-// The paper's numbers of the faults. A number of the list is 0 or above n;
-const NO_EVENT: u8 = 21;
-// it is not the next event of its thread (a repeat included);
-const NOT_NEXT: u8 = 22;
-// it is a read that sees otherwise;
-const SEES_OTHERWISE: u8 = 23;
-// it is an acquire of a lock that another thread holds;
-const LOCK_HELD: u8 = 24;
-// its thread's fork is not in the list before it or, where it is a join, an event of the joined thread is not.
-const NOT_READY: u8 = 27;
-// After the list a is not enabled;
-const LOWER_NOT_ENABLED: u8 = 25;
-// b is not.
-const HIGHER_NOT_ENABLED: u8 = 26;
+// A fault of a proposed list. `number` gives each its number in the paper.
+#[derive(Clone, Copy, PartialEq, Eq, Debug)]
+pub enum Fault {
+    // a number of the list is 0 or above n
+    NoEvent,
+    // it is not the next event of its thread (a repeat included)
+    NotNext,
+    // it is a read that sees otherwise
+    SeesOtherwise,
+    // it is an acquire of a lock that another thread holds
+    LockHeld,
+    // its thread's fork is not in the list before it or, where it is a join, an event of the joined thread is not
+    NotReady,
+    // after the list a is not enabled
+    LowerNotEnabled,
+    // b is not
+    HigherNotEnabled,
+}
 
-// The answer to question 5: yes, or no with the number of the first fault.
-#[derive(Clone, Copy)]
-pub enum Check {
-    Refused(Refusal),
-    Yes,
-    No(u8),
+impl Fault {
+    // The paper's number.
+    pub fn number(self) -> u8
+        ensures { result ≡ number_of self }
+    {
+        match self {
+            Fault::NoEvent => 21,
+            Fault::NotNext => 22,
+            Fault::SeesOtherwise => 23,
+            Fault::LockHeld => 24,
+            Fault::LowerNotEnabled => 25,
+            Fault::HigherNotEnabled => 26,
+            Fault::NotReady => 27,
+        }
+    }
 }
 
 // Is event k the next of its thread?
@@ -76,20 +90,17 @@ fn is_enabled(table: &[u16], last: &[u16; Thread::COUNT], k: usize) -> bool
     requires { Linked table.now × Valid (trace table.now) k }
     ensures { EnabledTold (trace table.now) last.now k result }
 {
-    if !is_next(table, last, k) {
-        return false;
-    }
-    is_ready(table, last, k)
+    is_next(table, last, k) && is_ready(table, last, k)
 }
 
-// Fault 23 or 24 of an event: a read must see what it saw in the trace, an acquire must take a
+// The access of an event as the next of the list: a read must see what it saw in the trace, an acquire must take a
 // lock that no other thread holds.
 fn access_fault(
     table: &[u16],
     writes: &[u16; Event::OBJECTS],
     locks: &[u8; Event::OBJECTS],
     k: usize,
-) -> u8
+) -> Result<(), Fault>
     requires { Linked table.now × Valid (trace table.now) k }
     ensures { AccessTold (trace table.now) writes.now locks.now k result }
 {
@@ -97,52 +108,43 @@ fn access_fault(
     let kind = table::kind_at(table, k);
     if kind == Event::READ {
         if table::wide(writes[x]) == table::waits_at(table, k) {
-            return 0;
+            return Ok(());
         }
-        return SEES_OTHERWISE;
+        return Err(Fault::SeesOtherwise);
     }
     if kind == Event::ACQUIRE {
         let c = table::thread_place(table, k);
-        if locks[x] == 0 {
-            return 0;
+        if locks[x] == 0 || locks[x] == (c + 1) as u8 {
+            return Ok(());
         }
-        if locks[x] == (c + 1) as u8 {
-            return 0;
-        }
-        return LOCK_HELD;
+        return Err(Fault::LockHeld);
     }
-    0
+    Ok(())
 }
 
-// The fault of the number k as the next of the list, 0 for none.
+// The number k as the next of the list: its fault, where it has one.
 fn fault_at(
     table: &[u16],
     last: &[u16; Thread::COUNT],
     writes: &[u16; Event::OBJECTS],
     locks: &[u8; Event::OBJECTS],
     k: u16,
-) -> u8
+) -> Result<(), Fault>
     requires { Linked table.now }
     ensures { FaultTold (trace table.now) last.now writes.now locks.now k result }
 {
     let at = k as usize;
-    if at < 1 {
-        return NO_EVENT;
-    }
-    if table::count(table) < at {
-        return NO_EVENT;
+    if at < 1 || table::count(table) < at {
+        return Err(Fault::NoEvent);
     }
     if !is_next(table, last, at) {
-        return NOT_NEXT;
+        return Err(Fault::NotNext);
     }
-    let fault = access_fault(table, writes, locks, at);
-    if fault != 0 {
-        return fault;
-    }
+    access_fault(table, writes, locks, at)?;
     if !is_ready(table, last, at) {
-        return NOT_READY;
+        return Err(Fault::NotReady);
     }
-    0
+    Ok(())
 }
 
 // Event k is passed. Of the releases only a last one, which is linked to itself, frees its lock.
@@ -174,28 +176,22 @@ fn pass(
     }
 }
 
-// Goes through the list: its first fault by place, 0 for none. The three lists are lent as of nothing passed; where there is no fault they are then as of all passed.
+// Goes through the list, up to its first fault by place. The three lists are lent as of nothing passed; where there is no fault they are then as of all passed.
 fn walk(
     table: &[u16],
     list: &[u16],
     last: &mut [u16; Thread::COUNT],
     writes: &mut [u16; Event::OBJECTS],
     locks: &mut [u8; Event::OBJECTS],
-) -> u8
+) -> Result<(), Fault>
     requires { Linked table.now × Knows (trace table.now) [] last.old writes.old locks.old }
     ensures { Walked (trace table.now) list.now result last.new writes.new locks.new }
 {
-    let mut i = 0;
-    while i < list.len() {
-        let k = list[i];
-        let fault = fault_at(table, last, writes, locks, k);
-        if fault != 0 {
-            return fault;
-        }
-        pass(table, k, last, writes, locks);
-        i += 1;
+    for k in list {
+        fault_at(table, last, writes, locks, *k)?;
+        pass(table, *k, last, writes, locks);
     }
-    0
+    Ok(())
 }
 
 // Is the list a correct reordering?
@@ -206,42 +202,35 @@ pub fn is_correct(table: &[u16], list: &[u16]) -> bool
     let mut last = [0u16; Thread::COUNT];
     let mut writes = [0u16; Event::OBJECTS];
     let mut locks = Locks::empty();
-    walk(table, list, &mut last, &mut writes, &mut locks.holder) == 0
+    walk(table, list, &mut last, &mut writes, &mut locks.holder).is_ok()
 }
 
-// The first fault of the list proposed for (a, b): by place, else that a or b is not enabled after it. 0 for none.
-fn first_fault(table: &[u16], a: u16, b: u16, list: &[u16]) -> u8
+// The first fault of the list proposed for (a, b): by place, else that a or b is not enabled after it. Ok where there is none.
+fn first_fault(table: &[u16], a: u16, b: u16, list: &[u16]) -> Result<(), Fault>
     requires linked { Linked table.now }
     requires valid { Valid (trace table.now) a × Valid (trace table.now) b }
-    ensures { result ≡ check (trace table.now) a b list.now }
+    ensures { fault_number result ≡ check (trace table.now) a b list.now }
 {
     let mut last = [0u16; Thread::COUNT];
     let mut writes = [0u16; Event::OBJECTS];
     let mut locks = Locks::empty();
-    let fault = walk(table, list, &mut last, &mut writes, &mut locks.holder);
-    if fault != 0 {
-        return fault;
-    }
+    walk(table, list, &mut last, &mut writes, &mut locks.holder)?;
     if !is_enabled(table, &last, a as usize) {
-        return LOWER_NOT_ENABLED;
+        return Err(Fault::LowerNotEnabled);
     }
     if !is_enabled(table, &last, b as usize) {
-        return HIGHER_NOT_ENABLED;
+        return Err(Fault::HigherNotEnabled);
     }
-    0
+    Ok(())
 }
 
-// Refusal 11, and the check of the list.
-pub fn check_in(table: &[u16], a: u16, b: u16, list: &[u16]) -> Check
+// Question 5: refusal 11, or the first fault of the list, none for yes.
+pub fn check_in(table: &[u16], a: u16, b: u16, list: &[u16]) -> Result<Option<Fault>, Refusal>
     requires { Linked table.now }
     ensures { result ≡ check_in none (trace table.now) a b list.now }
 {
     if !table::conflicting(table, a, b) {
-        return Check::Refused(Refusal::NotConflicting);
+        return Err(Refusal::NotConflicting);
     }
-    let fault = first_fault(table, a, b, list);
-    if fault == 0 {
-        return Check::Yes;
-    }
-    Check::No(fault)
+    Ok(first_fault(table, a, b, list).err())
 }

@@ -1,18 +1,21 @@
 use Rattle.std.proofs.Common.{rules}
+use Rattle.std.proofs.lemmas.Result.{err_from_is_err_and}
 use Rattle.checking.proofs.CheckLaws.{knows_none, walked_fault, walked_lower, walked_higher, walked_both}
 use Rattle.checking.proofs.first_fault.Goals as goal
 
-pub walk-fault-requires : goal.walk-fault-requires
-walk-fault-requires c = search (knows_none, rules)
+pub walk-requires : goal.walk-requires
+walk-requires c = search (knows_none, rules)
 
-pub returns-then-fault-ne0 : goal.returns-then-fault-ne0
-returns-then-fault-ne0 c = search walked_fault
+pub returns-in_err-walk : goal.returns-in_err-walk
+returns-in_err-walk c =
+    let p = err_from_is_err_and c.from_residual.result c.from_residual.ensures.1 in
+    rw (p.1, p.2) (search (walked_fault, rules))
 
 pub returns-then-not-is_enabled : goal.returns-then-not-is_enabled
-returns-then-not-is_enabled c = search (walked_lower, rules)
+returns-then-not-is_enabled c = search (walked_lower, c.in_ok-walk.ensures, rules)
 
 pub returns-then-not-is_enabled-2 : goal.returns-then-not-is_enabled-2
-returns-then-not-is_enabled-2 c = search (walked_higher, rules)
+returns-then-not-is_enabled-2 c = search (walked_higher, c.in_ok-walk.ensures, rules)
 
 pub returns : goal.returns
-returns c = search (walked_both, rules)
+returns c = search (walked_both, c.in_ok-walk.ensures, rules)
