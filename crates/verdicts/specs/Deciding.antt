@@ -1,5 +1,5 @@
 -- What the inner functions of questions 3 and 4 go by and leave: a work area of just the bytes that are zero after an answer.
-use Rattle.std.specs.Prelude.{ℕ, ◌≤◌, ◌≡◌, true, List, length, replicate}
+use Rattle.std.specs.Prelude.{ℕ, ◌≤◌, ◌≡◌, true, List, length, replicate, Option as RustOption}
 use Rattle.std.proofs.Math.Option.{Option}
 use Rattle.model.specs.Listing.{Race}
 use Rattle.decision.specs.Decision.{is_conflicting}
@@ -8,8 +8,7 @@ use Rattle.table.specs.Table.{trace, Linked}
 use Rattle.races.specs.Witness.{list_with}
 use Rattle.verdicts.specs.Verdict.{finding}
 use Rattle.verdicts.specs.Next.{next}
-use Rattle.verdicts.specs.declared.Finding.{Finding}
-use Rattle.verdicts.specs.declared.Next.{Next}
+use Rattle.verdicts.specs.declared.Pair.{Pair}
 
 -- a conflicting pair of a table with its links, and a list with room for its witness
 pub record Askable (table : List ℕ) (a b : ℕ) (list : List ℕ) : Type 0 where
@@ -23,7 +22,7 @@ pub record Decidable (table : List ℕ) (a b : ℕ) (list area : List ℕ) : Typ
   pub long : length area ≡ area_bytes
 
 -- the verdict by the witness o
-pub record Decides (o : Option (List ℕ)) (list list' area area' : List ℕ) (r : Finding) : Type 0 where
+pub record Decides (o : Option (List ℕ)) (list list' area area' : List ℕ) (r : RustOption ℕ) : Type 0 where
   pub says : r ≡ finding o
   pub wrote : list' ≡ list_with o list
   pub zero : area' ≡ replicate (length area) 0
@@ -34,6 +33,6 @@ pub record Searchable (table area : List ℕ) : Type 0 where
   pub long : length area ≡ area_bytes
 
 -- the next race o
-pub record Finds (o : Option Race) (area area' : List ℕ) (r : Next) : Type 0 where
+pub record Finds (o : Option Race) (area area' : List ℕ) (r : RustOption Pair) : Type 0 where
   pub says : r ≡ next o
   pub zero : area' ≡ replicate (length area) 0

@@ -10,85 +10,83 @@ ghost use Rattle.verdicts.specs.Next.{next_in};
 ghost use Rattle.verdicts.specs.Deciding.{Askable, Decidable, Decides, Searchable, Finds};
 
 use limits::{Recording, Refusal};
-use races::{Handed, Witnessed};
 
-// The answer to question 3: reported, with the length of the witness, or not.
+// A pair of events, by their numbers.
 #[derive(Clone, Copy)]
-pub enum Finding {
-    Refused(Refusal),
-    Reported { length: u16 },
-    NotReported,
+pub struct Pair {
+    pub lower: u16,
+    pub higher: u16,
 }
 
-// The answer to question 4: a reported pair, or that there is none.
-#[derive(Clone, Copy)]
-pub enum Next {
-    Refused(Refusal),
-    Race { lower: u16, higher: u16 },
-    NoRace,
-}
-
-// The verdict on (a, b), with a work area of just the bytes that are promised to be zero after it.
-fn decide(table: &[u16], a: u16, b: u16, list: &mut [u16], area: &mut [u8]) -> Finding
+// The length of the witness of (a, b), if it is reported, with a work area of just the bytes that are promised to be zero after it.
+fn decide(table: &[u16], a: u16, b: u16, list: &mut [u16], area: &mut [u8]) -> Option<u16>
     requires { Decidable table.now a b list.old area.old }
     ensures { Decides (witness (trace table.now) a b) list.old list.new area.old area.new result }
 {
     bits::clear(area);
-    match races::witness(table, a, b, list) {
-        Witnessed::Absent => Finding::NotReported,
-        Witnessed::Length(length) => Finding::Reported { length },
-    }
+    races::witness(table, a, b, list)
 }
 
 // Refusal 12, and the verdict.
-fn verdict_with(table: &[u16], a: u16, b: u16, list: &mut [u16], area: &mut [u8]) -> Finding
+#[tactic(auto, unfolding(crate::specs::Verdict::verdict_in))]
+fn verdict_with(
+    table: &[u16],
+    a: u16,
+    b: u16,
+    list: &mut [u16],
+    area: &mut [u8],
+) -> Result<Option<u16>, Refusal>
     requires { Askable table.now a b list.old }
     ensures { (result, list.new, area.new) ≡ verdict_in none (trace table.now) a b list.old area.old }
 {
     if !Recording::area_suffices(area.len()) {
-        return Finding::Refused(Refusal::AreaShort);
+        return Err(Refusal::AreaShort);
     }
-    decide(table, a, b, list, &mut area[..Recording::AREA_BYTES])
+    Ok(decide(table, a, b, list, &mut area[..Recording::AREA_BYTES]))
 }
 
-// Refusals 11, 10 and 12, in their order, and the verdict.
-pub fn verdict_in(table: &[u16], a: u16, b: u16, list: &mut [u16], area: &mut [u8]) -> Finding
+// Refusals 11, 10 and 12, in their order, and the answer to question 3: the length of the witness, if (a, b) is reported.
+#[tactic(auto, unfolding(crate::specs::Verdict::verdict_in))]
+pub fn verdict_in(
+    table: &[u16],
+    a: u16,
+    b: u16,
+    list: &mut [u16],
+    area: &mut [u8],
+) -> Result<Option<u16>, Refusal>
     requires { Linked table.now }
     ensures { (result, list.new, area.new) ≡ verdict_in none (trace table.now) a b list.old area.old }
 {
     if !table::conflicting(table, a, b) {
-        return Finding::Refused(Refusal::NotConflicting);
+        return Err(Refusal::NotConflicting);
     }
     if list.len() < table::count(table) {
-        return Finding::Refused(Refusal::ListShort);
+        return Err(Refusal::ListShort);
     }
     verdict_with(table, a, b, list, area)
 }
 
 // The first race after (a, b), with a work area of just the bytes that are promised to be zero after it.
-fn find_next(table: &[u16], a: u16, b: u16, area: &mut [u8]) -> Next
+fn find_next(table: &[u16], a: u16, b: u16, area: &mut [u8]) -> Option<Pair>
     requires { Searchable table.now area.old }
     ensures { Finds (next_race (trace table.now) a b) area.old area.new result }
 {
     bits::clear(area);
     let mut list = [0u16; Recording::MAX_EVENTS];
-    match races::next_race(table, a, b, &mut list) {
-        Handed::NoMore => Next::NoRace,
-        Handed::Race {
-            lower,
-            higher,
-            length: _,
-        } => Next::Race { lower, higher },
-    }
+    races::next_race(table, a, b, &mut list).map(|race| Pair {
+        lower: race.lower,
+        higher: race.higher,
+    })
 }
 
-// Refusal 12, and the first race after (a, b).
-pub fn next_in(table: &[u16], a: u16, b: u16, area: &mut [u8]) -> Next
+// Refusal 12, and the answer to question 4: the first race after (a, b), if there is one.
+#[tactic(auto, unfolding(crate::specs::Next::next_in))]
+pub fn next_in(table: &[u16], a: u16, b: u16, area: &mut [u8]) -> Result<Option<Pair>, Refusal>
     requires { Linked table.now }
     ensures { (result, area.new) ≡ next_in none (trace table.now) a b area.old }
 {
     if !Recording::area_suffices(area.len()) {
-        return Next::Refused(Refusal::AreaShort);
+        return Err(Refusal::AreaShort);
     }
-    find_next(table, a, b, &mut area[..Recording::AREA_BYTES])
+    Ok(find_next(table, a, b, &mut area[..Recording::AREA_BYTES]))
 }

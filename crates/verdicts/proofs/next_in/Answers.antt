@@ -1,11 +1,8 @@
 use Rattle.std.proofs.Common.{rules}
 use Rattle.model.proofs.Lists.{front_length}
 use Rattle.verdicts.proofs.VerdictLaws.{area_long}
-use Rattle.verdicts.proofs.NextLaws.{next_refused, next_searchable, next-found}
+use Rattle.verdicts.proofs.NextLaws.{next_searchable, next-found}
 use Rattle.verdicts.proofs.next_in.Goals as goal
-
-pub returns-then-not-area_suffices : goal.returns-then-not-area_suffices
-returns-then-not-area_suffices c = search (next_refused, rules)
 
 pub slice_bounds-find_next-end : goal.slice_bounds-find_next-end
 slice_bounds-find_next-end c = search (area_long, rules)

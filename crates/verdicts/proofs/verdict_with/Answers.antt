@@ -1,10 +1,7 @@
 use Rattle.std.proofs.Common.{rules}
 use Rattle.model.proofs.Lists.{front_length}
-use Rattle.verdicts.proofs.VerdictLaws.{area_long, area_refused, pair_decidable, pair_decided}
+use Rattle.verdicts.proofs.VerdictLaws.{area_long, pair_decidable, pair_decided}
 use Rattle.verdicts.proofs.verdict_with.Goals as goal
-
-pub returns-then-not-area_suffices : goal.returns-then-not-area_suffices
-returns-then-not-area_suffices c = search (area_refused, rules)
 
 pub slice_bounds-decide-end : goal.slice_bounds-decide-end
 slice_bounds-decide-end c = search (area_long, rules)
