@@ -1,7 +1,7 @@
 -- What an answer says to a caller.
 use Prim.Native.Nat.{ℕ, suc, ◌≤◌}
 use native.Mathlib.Omega.{arith}
-use mathlib.Core.Path.{◌≡◌, ap}
+use mathlib.Core.Path.{◌≡◌, sym, ap}
 use mathlib.Core.List.{List, [], ◌∷◌, map}
 use lib.ListN.{length, length-append, length-map}
 use lib.Dec.{eqb}
@@ -12,8 +12,9 @@ use Rattle.appending.specs.Appended.{Appends}
 use Rattle.wording.specs.Lines.{note_line, event_line}
 use Rattle.composing.specs.Texts.{extend, lines, Makes, ReadsText, good, bad_line}
 use Rattle.composing.proofs.SaidLaws.{said_few}
-use Rattle.composing.specs.declared.Text.{Text}
-use Rattle.composing.specs.declared.Text.TheVariants.{Good}
+use Rattle.std.specs.Prelude.{Result, Ok}
+use Rattle.composing.specs.declared.Parts.{Parts}
+use Rattle.composing.specs.declared.BadLine.{BadLine}
 
 extend_few : (b : ℕ) (ls : List (List ℕ)) → length (extend b ls) ≤ suc (length ls)
 extend_few b [] = omega arith
@@ -42,26 +43,22 @@ appends_within : {put out out' : List ℕ} {r : ℕ} → Appends put 0 out out' 
 appends_within a = let w = a.within in let s = a.same in omega arith
 
 module _ {text pre pre' th th' ki ki' ob ob' : List ℕ} where
-  good-parts : {r : Text} → ReadsText text pre pre' th th' ki ki' ob ob' r → (a p n : ℕ) → r ≡ Good a p n → (p ≤ length pre') × (n ≤ length th') × (n ≤ length ki') × (n ≤ length ob')
-  good-parts (good {p = p'} {n = n'} m ea en pr li) a p n e =
-      let y : p' ≡ p = cc in
-      let z : n' ≡ n = cc in
-      let j = appends_within pr in
-      let k = appends_within li.threads in
-      let l = appends_within li.kinds in
-      let o = appends_within li.objects in
-      (omega arith, omega arith, omega arith, omega arith)
-  good-parts (bad_line x i u v) a p n e = let o : ◌≡◌ {A = ℕ} 0 1 = cc in absurd (omega arith)
+  good-parts : {r : Result Parts BadLine} → ReadsText text pre pre' th th' ki ki' ob ob' r → (v : Parts) → r ≡ Ok v
+      → (v.preamble ≤ length pre') × (v.events ≤ length th') × (v.events ≤ length ki') × (v.events ≤ length ob')
+  good-parts (good {v = w} m ea en pr li) v e =
+      let q : w ≡ v = cc in
+      rw (sym q) (appends_within pr, appends_within li.threads, appends_within li.kinds, appends_within li.objects)
+  good-parts (bad_line x i u v) w e = let o : ◌≡◌ {A = ℕ} 0 1 = cc in absurd (omega arith)
 
-  module _ (r : Text) (x : ReadsText text pre pre' th th' ki ki' ob ob' r) (a p n : ℕ) (e : r ≡ Good a p n) where
-    pub preamble_within : p ≤ length pre'
-    preamble_within = (good-parts x a p n e).0
+  module _ (r : Result Parts BadLine) (x : ReadsText text pre pre' th th' ki ki' ob ob' r) (v : Parts) (e : r ≡ Ok v) where
+    pub preamble_within : v.preamble ≤ length pre'
+    preamble_within = (good-parts x v e).0
 
-    pub threads_within : n ≤ length th'
-    threads_within = (good-parts x a p n e).1
+    pub threads_within : v.events ≤ length th'
+    threads_within = (good-parts x v e).1
 
-    pub kinds_within : n ≤ length ki'
-    kinds_within = (good-parts x a p n e).2
+    pub kinds_within : v.events ≤ length ki'
+    kinds_within = (good-parts x v e).2
 
-    pub objects_within : n ≤ length ob'
-    objects_within = (good-parts x a p n e).3
+    pub objects_within : v.events ≤ length ob'
+    objects_within = (good-parts x v e).3

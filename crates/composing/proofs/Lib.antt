@@ -9,7 +9,7 @@ pub mod TextLaws
 -- What an answer says to a caller
 pub mod AnswerLaws
 -- The first bad line
-pub mod BadLine
+pub mod BadLineLaws
 -- A text has one answer, and its preamble is readable
 pub mod OneAnswer
 pub mod NoteReadable

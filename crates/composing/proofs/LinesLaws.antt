@@ -1,5 +1,5 @@
 -- The lines of a text, one after the other.
-use Prim.Native.Nat.{ℕ, ◌+◌, ◌-◌, ◌≤◌, ◌<◌}
+use Prim.Native.Nat.{ℕ, ◌+◌, ◌-◌, ◌≤◌, ◌<◌, min}
 use native.Mathlib.Omega.{arith}
 use mathlib.Core.Path.{◌≡◌, refl, sym, ◌∙◌, ap}
 use mathlib.Core.List.{List, [], ◌∷◌, ◌++◌}
@@ -68,14 +68,20 @@ module _ (text : List ℕ) (at i : ℕ) (h : at < length text) (is : i ≡ first
 
 -- ---- where the next begins
 
-module _ {text : List ℕ} {at end : ℕ} (h : at < length text) (l : LineEnd text at end) where
-  pub next_ended : (end ≡ length text → ⊥) → NextLine text at (end + 1)
-  next_ended ne = let a = l.low in let b = l.high in record { line = take (end - at) (drop at text); splits = l.splits; on = omega arith; within = omega arith }
-
-  pub next_last : end ≡ length text → NextLine text at end
-  next_last e =
-      let z : lines (drop (end + 1) text) ≡ lines (drop end text) = lines_none text (end + 1) (omega arith) ∙ sym (lines_none text end (omega arith)) in
-      record { line = take (end - at) (drop at text); splits = rw (← z) l.splits; on = omega arith; within = omega arith }
+pub next_begins : {text : List ℕ} {at end : ℕ} → at < length text → LineEnd text at end → NextLine text at (min (end + 1) (length text))
+next_begins {text} {at} {end} h l =
+    let a = l.low in
+    let b = l.high in
+    by_cases (ltb end (length text))
+    (λ e.
+    let g = ltb-true _ _ e in
+    let z : min (end + 1) (length text) ≡ end + 1 = omega arith in
+    rw z (record { line = take (end - at) (drop at text); splits = l.splits; on = omega arith; within = omega arith }))
+    (λ e.
+    let g = ltb-false _ _ e in
+    let z : min (end + 1) (length text) ≡ length text = omega arith in
+    let n : lines (drop (end + 1) text) ≡ lines (drop (length text) text) = lines_none text (end + 1) (omega arith) ∙ sym (lines_none text (length text) (omega arith)) in
+    rw z (record { line = take (end - at) (drop at text); splits = rw (← n) l.splits; on = omega arith; within = omega arith }))
 
 -- ---- a line is a comment where one begins
 

@@ -13,8 +13,9 @@ use Rattle.model.proofs.Tests.{by_cases}
 use Rattle.appending.specs.Appended.{Appends}
 use Rattle.wording.specs.Lines.{note_line, event_line, InRange}
 use Rattle.composing.specs.Texts.{lines, said, Makes, Listed, FirstBad, ReadsText, good, bad_line, Settled}
-use Rattle.composing.specs.declared.Text.{Text}
-use Rattle.composing.specs.declared.Text.TheVariants.{Bad, Good}
+use Rattle.std.specs.Prelude.{Result, Ok, Err}
+use Rattle.composing.specs.declared.Parts.{Parts}
+use Rattle.composing.specs.declared.BadLine.{BadLine}
 use Rattle.composing.proofs.SaidLaws.{said-front}
 use Rattle.wording.proofs.LineOne.{event_one}
 use Rattle.wording.proofs.LineLaws.{event_apart}
@@ -87,7 +88,7 @@ appends_one {put} {out} {a} {b} {r} {s} x y =
     (e, sym (take-append-drop r a) ∙ (rw (f, g) (take-append-drop r b)))
 
 -- the same preamble and events leave one content in what is lent
-same_lent : {put : List ℕ} {es : Trace} {pre pre₁ pre₂ th th₁ th₂ ki ki₁ ki₂ ob ob₁ ob₂ : List ℕ} {p q n m : ℕ} {r s : Text} → r ≡ s
+same_lent : {put : List ℕ} {es : Trace} {pre pre₁ pre₂ th th₁ th₂ ki ki₁ ki₂ ob ob₁ ob₂ : List ℕ} {p q n m : ℕ} {r s : Result Parts BadLine} → r ≡ s
     → Appends put 0 pre pre₁ p → Appends put 0 pre pre₂ q → Listed es th th₁ ki ki₁ ob ob₁ n → Listed es th th₂ ki ki₂ ob ob₂ m
     → Settled r s pre₁ pre₂ th₁ th₂ ki₁ ki₂ ob₁ ob₂
 same_lent e a b l k = record {
@@ -97,6 +98,12 @@ same_lent e a b l k = record {
   kinds = (appends_one l.kinds k.kinds).1;
   objects = (appends_one l.objects k.objects).1;
 }
+
+same_parts : (v w : Parts) → v.notes ≡ w.notes → v.preamble ≡ w.preamble → v.events ≡ w.events → v ≡ w
+same_parts v w a p n = let same : ◌≡◌ {A = Parts} (record { notes = v.notes; preamble = v.preamble; events = v.events }) (record { notes = w.notes; preamble = w.preamble; events = w.events }) = rw (a, p, n) in same
+
+same_bad : (b c : BadLine) → b.number ≡ c.number → b.reason ≡ c.reason → b ≡ c
+same_bad b c n r = let same : ◌≡◌ {A = BadLine} (record { number = b.number; reason = b.reason }) (record { number = c.number; reason = c.reason }) = rw (n, r) in same
 
 module _ (text : List ℕ) where
   -- lines that make a recording have no bad line
@@ -115,25 +122,21 @@ module _ (text : List ℕ) where
       by_cases (ltb m n) (λ d. absurd (none_before n x.before m y.none (ltb-true m n d)))
       (λ d. let u = ltb-false n m e in let v = ltb-false m n d in omega arith))
 
-  pub text_one : {pre pre₁ pre₂ th th₁ th₂ ki ki₁ ki₂ ob ob₁ ob₂ : List ℕ} {r s : Text} → ReadsText text pre pre₁ th th₁ ki ki₁ ob ob₁ r
+  pub text_one : {pre pre₁ pre₂ th th₁ th₂ ki ki₁ ki₂ ob ob₁ ob₂ : List ℕ} {r s : Result Parts BadLine} → ReadsText text pre pre₁ th th₁ ki ki₁ ob ob₁ r
       → ReadsText text pre pre₂ th th₂ ki ki₂ ob ob₂ s → Settled r s pre₁ pre₂ th₁ th₂ ki₁ ki₂ ob₁ ob₂
-  text_one (good {notes = notes} {es = es} {a = a} {p = p} {n = n} m ea en pr li) (good {notes = notes'} {es = es'} {a = a'} {p = p'} {n = n'} m' ea' en' pr' li') =
+  text_one (good {notes = notes} {es = es} {v = v} m ea en pr li) (good {notes = notes'} {es = es'} {v = w} m' ea' en' pr' li') =
       let l = makes_one m m' in
       let x = l.0 in
       let y = l.1 in
-      let u = (appends_one (rw x at pr) pr').0 in
-      let v : n ≡ n' = en ∙ ap length y ∙ sym en' in
-      let w : a ≡ a' = ea ∙ ap length x ∙ sym ea' in
-      let z : Good a p n ≡ Good a' p' n' = cc in
-      same_lent z (rw x at pr) pr' (rw y at li) li'
-  text_one (good m ea en pr li) (bad_line {n = n} x i u v) = absurd (none_bad m n x.none)
-  text_one (bad_line {n = n} x i u v) (good m ea en pr li) = absurd (none_bad m n x.none)
-  text_one (bad_line {n = n} {r = r} x i pr li) (bad_line {n = n'} {r = r'} y i' pr' li') =
+      let z = same_parts v w (ea ∙ ap length x ∙ sym ea') (appends_one (rw x at pr) pr').0 (en ∙ ap length y ∙ sym en') in
+      same_lent (ap Ok z) (rw x at pr) pr' (rw y at li) li'
+  text_one (good m ea en pr li) (bad_line {b = b} x i u v) = absurd (none_bad m b.number x.none)
+  text_one (bad_line {b = b} x i u v) (good m ea en pr li) = absurd (none_bad m b.number x.none)
+  text_one (bad_line {b = b} x i pr li) (bad_line {b = c} y i' pr' li') =
       let z = bad_one x y in
-      let w : r ≡ r' = rw z at i ∙ sym i' in
-      let q : Bad n r ≡ Bad n' r' = cc in
-      let b : Makes (take (n' - 1) (lines text)) x.notes x.es = rw z at x.before in
-      let l = makes_one b y.before in
+      let w : b.reason ≡ c.reason = rw z at i ∙ sym i' in
+      let f : Makes (take (c.number - 1) (lines text)) x.notes x.es = rw z at x.before in
+      let l = makes_one f y.before in
       let u = l.0 in
       let v = l.1 in
-      same_lent q (rw u at pr) pr' (rw v at li) li'
+      same_lent (ap Err (same_bad b c z w)) (rw u at pr) pr' (rw v at li) li'

@@ -10,6 +10,7 @@ use lib.Seq.{take-append_seam}
 use borrow.Author.Tests.{eq-eqb, ne_eqb}
 use lib.Dec.{eqb}
 use Rattle.model.proofs.Tests.{by_cases}
+use Rattle.std.specs.Prelude.{Some, None}
 use Rattle.wording.specs.Lines.{is_comment}
 use Rattle.composing.specs.Texts.{lines, said, line_from, line_of}
 use Rattle.composing.specs.Parts.{LineEnd, NextLine, Says, comment_at, Stands, Skips, NextSaid}
@@ -61,9 +62,6 @@ module _ {text : List ℕ} where
 -- ---- the loop that passes over comments
 
 module _ (text : List ℕ) (from at : ℕ) (s : Says text from at []) (low : from ≤ at) where
-  pub skip_found : at < length text → (get_or text at 0 ≡ 35 → ⊥) → Skips text from at
-  skip_found h ne = record { nothing = s; low = low; stands = record { within = omega arith; plain = ne_eqb _ _ ne } }
-
   pub skip_on : get_or text at 0 ≡ 35 → (next : ℕ) → NextLine text at next → Says text from next []
   unfolding said
   skip_on e next n =
@@ -72,9 +70,6 @@ module _ (text : List ℕ) (from at : ℕ) (s : Says text from at []) (low : fro
 
 at_end : (text : List ℕ) (at : ℕ) → length text ≤ at → comment_at text at ≡ false
 at_end text at h = rw (get_or-eq_default text 0 {n = at} h)
-
-pub skip_end : (text : List ℕ) (from at : ℕ) → Says text from at [] → from ≤ at → at ≤ length text → length text ≤ at → Skips text from at
-skip_end text from at s low w h = record { nothing = s; low = low; stands = record { within = w; plain = at_end text at h } }
 
 -- ---- behind a line
 
@@ -112,7 +107,7 @@ unfolding line_of
 count-start text m = let z : m - 0 ≡ m = omega arith in record { left = rw z; fewer = omega arith; few = omega arith }
 
 module _ {text : List ℕ} {m seen number at : ℕ} (c : Counted text m seen number at) where
-  pub count_over : length text ≤ at → 0 ≡ line_of m (lines text)
+  pub count_over : length text ≤ at → None ≡ line_of m (lines text)
   count_over h = rw (c.left, lines_none text at h)
 
   module _ {next : ℕ} (n : NextLine text at next) where
@@ -128,7 +123,7 @@ module _ {text : List ℕ} {m seen number at : ℕ} (c : Counted text m seen num
       plain : is_comment n.line ≡ false
       plain = comment_line text at n.splits ∙ ne_eqb _ _ ne
 
-      pub count-found : seen + 1 ≡ m → number + 1 ≡ line_of m (lines text)
+      pub count-found : seen + 1 ≡ m → Some (number + 1) ≡ line_of m (lines text)
       count-found e = let z : m - seen ≡ 1 = omega arith in rw (c.left, n.splits, plain, z)
 
       pub count_on : (seen + 1 ≡ m → ⊥) → Counted text m (seen + 1) (number + 1) next
@@ -143,20 +138,20 @@ module _ {text : List ℕ} {m seen number at : ℕ} (c : Counted text m seen num
 
 -- ---- the number of a line
 
-line_from_lem : (k m : ℕ) (x : List (List ℕ)) (l : List ℕ) (more : List (List ℕ)) → is_comment l ≡ false → m ≡ length (said x) + 1 → line_from k m (x ++ (l ∷ more)) ≡ k + length x + 1
+line_from_lem : (k m : ℕ) (x : List (List ℕ)) (l : List ℕ) (more : List (List ℕ)) → is_comment l ≡ false → m ≡ length (said x) + 1 → line_from k m (x ++ (l ∷ more)) ≡ Some (k + length x + 1)
 unfolding said
-line_from_lem k m [] l more e q = rw (e, eq-eqb m 1 (omega arith)) (omega arith)
+line_from_lem k m [] l more e q = rw (e, eq-eqb m 1 (omega arith)) (ap Some (omega arith))
 line_from_lem k m (a ∷ x) l more e q =
     by_cases (is_comment a)
-    (λ c. let h : m ≡ length (said x) + 1 = rw c at q in rw c (line_from_lem (k + 1) m x l more e h ∙ omega arith))
+    (λ c. let h : m ≡ length (said x) + 1 = rw c at q in rw c (line_from_lem (k + 1) m x l more e h ∙ ap Some (omega arith)))
     (λ c.
     let h : m ≡ suc (length (said x)) + 1 = rw c at q in
-    rw (c, ne_eqb m 1 (λ z. omega arith)) (line_from_lem (k + 1) (m - 1) x l more e (omega arith) ∙ omega arith))
+    rw (c, ne_eqb m 1 (λ z. omega arith)) (line_from_lem (k + 1) (m - 1) x l more e (omega arith) ∙ ap Some (omega arith)))
 
 -- the line behind some lines, if it is no comment, is the next of those that are none
-pub line_of_next : (m : ℕ) (x : List (List ℕ)) (l : List ℕ) (more : List (List ℕ)) → is_comment l ≡ false → m ≡ length (said x) + 1 → line_of m (x ++ (l ∷ more)) ≡ length x + 1
+pub line_of_next : (m : ℕ) (x : List (List ℕ)) (l : List ℕ) (more : List (List ℕ)) → is_comment l ≡ false → m ≡ length (said x) + 1 → line_of m (x ++ (l ∷ more)) ≡ Some (length x + 1)
 unfolding line_of
-line_of_next m x l more e q = line_from_lem 0 m x l more e q ∙ omega arith
+line_of_next m x l more e q = line_from_lem 0 m x l more e q ∙ ap Some (omega arith)
 
 -- ---- fewer lines
 

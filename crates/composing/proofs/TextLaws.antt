@@ -17,15 +17,14 @@ use Rattle.format.specs.Readable.{Readable}
 use Rattle.wording.specs.Lines.{note_line, IsNote, event_line, InRange, IsEvent, is_comment, Reads}
 use Rattle.composing.specs.Texts.{lines, line_at, said, line_of, joined, Makes, Listed, ReadsText, good, bad_line}
 use Rattle.wording.specs.Parts.{SaysNote}
-use Rattle.composing.specs.Parts.{LineEnd, Says, Skips, NextSaid, note_bytes, NotesRead, NotesUpTo, ListsLent, EventsRead, ReadsEvents, all, stopped, StopsAt, BadAt, bad_at}
+use Rattle.composing.specs.Parts.{LineEnd, Says, Skips, NextSaid, note_bytes, NotesRead, NotesUpTo, ListsLent, EventsRead, ReadsEvents, all, stopped, StopsAt, BadAt}
 use Rattle.wording.specs.Reasons.{reason_of}
-use Rattle.wording.specs.declared.Reason.{Reason}
+use Rattle.std.specs.Prelude.{Option, Some, None, Ok, Err}
+use Rattle.std.proofs.lemmas.Option.{none-some, same_Some}
 use Rattle.wording.specs.declared.Line.{Line}
-use Rattle.wording.specs.declared.Line.TheVariants.{Bad as BadLine, Note, Event as EventOf}
-use Rattle.composing.specs.declared.Text.{Text}
-use Rattle.composing.specs.declared.Text.TheVariants.{Bad, Good}
+use Rattle.wording.specs.declared.Line.TheVariants.{Note, Event as EventOf}
+use Rattle.composing.specs.declared.BadLine.{BadLine}
 use Rattle.composing.specs.declared.Events.{Events}
-use Rattle.composing.specs.declared.Events.TheVariants.{Stopped, All}
 use Rattle.wording.proofs.FirstLaws.{from, from-drop}
 use Rattle.wording.proofs.NoteLaws.{says_note, says_none}
 use Rattle.wording.proofs.LineLaws.{event_apart, event_no_note, reads_note, reads_event, reads_bad}
@@ -167,17 +166,17 @@ put_more : (f : Event → ℕ) (es : Trace) (e : Event) (l₀ l : List ℕ) (n :
 put_more f es e l₀ l n h a = rw map-append (appends_then a (appends_byte (f e) n l (omega arith)))
 
 module _ {text : List ℕ} {from : ℕ} {th₀ th ki₀ ki ob₀ ob : List ℕ} {n at : ℕ} (r : EventsRead text from th₀ th ki₀ ki ob₀ ob n at) where
-  pub events-all : length text ≤ at → ReadsEvents text from th₀ th ki₀ ki ob₀ ob (All n)
-  events-all h = all r h
+  pub events-all : length text ≤ at → ReadsEvents text from th₀ th ki₀ ki ob₀ ob (record { count = n; stop = None })
+  events-all h = all r h refl
 
-  module _ (within : at < length text) {end : ℕ} (l : LineEnd text at end) {a : Line} (x : Reads (take (end - at) (drop at text)) a) where
-    pub events_bad : a ≡ BadLine → ReadsEvents text from th₀ th ki₀ ki ob₀ ob (Stopped n at)
-    events_bad e = stopped r within l.splits (reads_bad x e).1
+  module _ (within : at < length text) {end : ℕ} (l : LineEnd text at end) {a : Option Line} (x : Reads (take (end - at) (drop at text)) a) where
+    pub events_bad : a ≡ None → ReadsEvents text from th₀ th ki₀ ki ob₀ ob (record { count = n; stop = Some at })
+    events_bad e = stopped r within l.splits (reads_bad x e).1 refl
 
-    pub events_note : a ≡ Note → ReadsEvents text from th₀ th ki₀ ki ob₀ ob (Stopped n at)
-    events_note e = stopped r within l.splits (λ f i. event_no_note f i (reads_note x e))
+    pub events_note : a ≡ Some Note → ReadsEvents text from th₀ th ki₀ ki ob₀ ob (record { count = n; stop = Some at })
+    events_note e = stopped r within l.splits (λ f i. event_no_note f i (reads_note x e)) refl
 
-    pub events_on : ListsLent text from th₀ ki₀ ob₀ → (t k o : ℕ) → a ≡ EventOf t k o → {next : ℕ} → NextSaid text end next
+    pub events_on : ListsLent text from th₀ ki₀ ob₀ → (t k o : ℕ) → a ≡ Some (EventOf t k o) → {next : ℕ} → NextSaid text end next
         → EventsRead text from th₀ (set th n t) ki₀ (set ki n k) ob₀ (set ob n o) (n + 1) next
     events_on g t k o e {next} y = go (record { thread = t; kind = k; object = o }) (reads_event x t k o e)
       where
@@ -231,16 +230,11 @@ module _ (ls front : List (List ℕ)) (l : List ℕ) (says : said ls ≡ front +
 
 -- ---- the text
 
--- the answer for a bad line
-pub stop_answer : (text : List ℕ) (m at n end : ℕ) → n ≡ line_of m (lines text) → LineEnd text at end → (r : Reason) → r ≡ reason_of (take (end - at) (drop at text)) → BadAt text m at (Bad n r)
-stop_answer text m at n end e l r q = bad_at e l.splits q
-
 module _ {text pre pre' : List ℕ} {a p end : ℕ} (r : NotesUpTo text pre pre' a p end) {th th' ki ki' ob ob' : List ℕ} where
-  pub text_good : {v : Events} → ReadsEvents text end th th' ki ki' ob ob' v → (n : ℕ) → v ≡ All n → ReadsText text pre pre' th th' ki ki' ob ob' (Good a p n)
-  text_good (all {n = m} s h) n e =
-      let q : m ≡ n = cc in
-      good (record { these = says_all (says_then r.read.these s.these) h; readable = r.read.readable; in_range = s.in_range }) r.read.number (sym q ∙ s.number) r.read.put (rw q at s.put)
-  text_good (stopped s h g f) n e = let o : ◌≡◌ {A = ℕ} 0 1 = cc in absurd (omega arith)
+  pub text_good : {v : Events} → ReadsEvents text end th th' ki ki' ob ob' v → v.stop ≡ None → ReadsText text pre pre' th th' ki ki' ob ob' (Ok (record { notes = a; preamble = p; events = v.count }))
+  text_good (all s h q) e =
+      good (record { these = says_all (says_then r.read.these s.these) h; readable = r.read.readable; in_range = s.in_range }) r.read.number s.number r.read.put s.put
+  text_good (stopped {at} s h g f q) e = absurd (none-some at (sym e ∙ q))
 
   -- the line at which the events stop
   module _ {n at : ℕ} {l : List ℕ} {more : List (List ℕ)} (s : EventsRead text end th th' ki ki' ob ob' n at) (g : lines (drop at text) ≡ l ∷ more) (f : (e : Event) → ¬ IsEvent l e) where
@@ -266,7 +260,7 @@ module _ {text pre pre' : List ℕ} {a p end : ℕ} (r : NotesUpTo text pre pre'
     unfolding said
     stop_says = said-append before.between (l ∷ []) ∙ rw (before.says, plain)
 
-    stop_number : line_of (a + n + 1) (lines text) ≡ length before.between + 1
+    stop_number : line_of (a + n + 1) (lines text) ≡ Some (length before.between + 1)
     stop_number = let fl = front_length in let y = ap length before.says in rw whole (line_of_next (a + n + 1) before.between l more plain (omega arith))
 
     -- the first line after the notes is among those up to the stop
@@ -286,7 +280,7 @@ module _ {text pre pre' : List ℕ} {a p end : ℕ} (r : NotesUpTo text pre pre'
     stop_at : line_at (length before.between + 1) text ≡ l
     stop_at = rw whole (get_or_at before.between l more [] (length before.between + 1 - 1) (omega arith))
 
-    stop_line : ReadsText text pre pre' th th' ki ki' ob ob' (Bad (length before.between + 1) (reason_of l))
+    stop_line : ReadsText text pre pre' th th' ki ki' ob ob' (Err (record { number = length before.between + 1; reason = reason_of l }))
     unfolding front
     stop_line =
         let k = length before.between in
@@ -295,7 +289,7 @@ module _ {text pre pre' : List ℕ} {a p end : ℕ} (r : NotesUpTo text pre pre'
         let t : take (k + 1 - 1) (lines text) ≡ before.between = rw whole (take_at before.between (l ∷ more) (k + 1 - 1) (omega arith)) in
         let u : take (k + 1) (lines text) ≡ before.between ++ (l ∷ []) = rw w (take_at (before.between ++ (l ∷ [])) more (k + 1) (length_more before.between l)) in
         let m = first-after in
-        bad_line {n = k + 1} (record {
+        bad_line {b = record { number = k + 1; reason = reason_of l }} (record {
           notes = r.read.notes;
           es = s.es;
           least = omega arith;
@@ -307,21 +301,21 @@ module _ {text pre pre' : List ℕ} {a p end : ℕ} (r : NotesUpTo text pre pre'
         r.read.put
         s.put
 
-  pub text_bad : {v : Events} → ReadsEvents text end th th' ki ki' ob ob' v → (n at : ℕ) → v ≡ Stopped n at → (w : Text) → BadAt text (a + n + 1) at w → ReadsText text pre pre' th th' ki ki' ob ob' w
-  text_bad (all s h) n at e w b = let o : ◌≡◌ {A = ℕ} 0 1 = cc in absurd (omega arith)
-  text_bad (stopped {n = m} {at = at'} {l = l} s h g f) n at e w (bad_at {n = k} {l = l'} {r = v} i j q) =
-      let x : n ≡ m = cc in
-      let y : lines (drop at text) ≡ lines (drop at' text) = let z : at ≡ at' = cc in rw z in
-      let same : l ≡ l' = let z = sym g ∙ sym y ∙ j in cc in
-      let number : length (before s g f).between + 1 ≡ k = sym (stop_number s g f) ∙ sym (rw x at i) in
-      let why : reason_of l ≡ v = ap reason_of same ∙ sym q in
-      rw (number, why) at (stop_line s g f)
+  pub text_bad : {v : Events} → ReadsEvents text end th th' ki ki' ob ob' v → (at : ℕ) → v.stop ≡ Some at → (b : BadLine) → BadAt text (a + v.count + 1) at b
+      → ReadsText text pre pre' th th' ki ki' ob ob' (Err b)
+  text_bad (all s h q) at e b w = absurd (none-some at (sym q ∙ e))
+  text_bad (stopped {at = at'} {l = l} s h g f q) at e b w =
+      let y : lines (drop at text) ≡ lines (drop at' text) = let z = same_Some at at' (sym e ∙ q) in rw z in
+      let same : l ≡ w.line = let z = sym g ∙ sym y ∙ w.there in cc in
+      let number = same_Some _ _ (sym (stop_number s g f) ∙ w.number) in
+      let why : reason_of l ≡ b.reason = ap reason_of same ∙ sym w.reason in
+      let e : ◌≡◌ {A = BadLine} (record { number = length (before s g f).between + 1; reason = reason_of l }) (record { number = b.number; reason = b.reason }) = rw (number, why) in
+      rw e at (stop_line s g f)
 
-  pub stop_there : {v : Events} → ReadsEvents text end th th' ki ki' ob ob' v → (n at : ℕ) → v ≡ Stopped n at → StopsAt text a n at
-  stop_there (all s h) n at e = let o : ◌≡◌ {A = ℕ} 0 1 = cc in absurd (omega arith)
-  stop_there (stopped {n = m} {at = at'} s h g f) n at e =
-      let z : at' ≡ at = cc in
-      let q : m ≡ n = cc in
+  pub stop_there : {v : Events} → ReadsEvents text end th th' ki ki' ob ob' v → (at : ℕ) → v.stop ≡ Some at → StopsAt text a v.count at
+  stop_there (all s h q) at e = absurd (none-some at (sym q ∙ e))
+  stop_there (stopped {at = at'} s h g f q) at e =
+      let z = same_Some at' at (sym q ∙ e) in
       let x = s.few in
       let y = r.read.few in
-      record { within = omega arith; few = omega arith }
+      record { within = omega arith; few = omega arith; numbered = rw (stop_number s g f) refl }

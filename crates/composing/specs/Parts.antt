@@ -1,5 +1,5 @@
 -- What the parts of a text give: what the private functions promise.
-use Rattle.std.specs.Prelude.{ℕ, ◌+◌, ◌-◌, ◌≤◌, ◌<◌, ◌≡◌, ◌⊎◌, Bool, false, cond, length, get_or, take, drop, eqb}
+use Rattle.std.specs.Prelude.{ℕ, ◌+◌, ◌-◌, ◌≤◌, ◌<◌, ◌≡◌, ◌⊎◌, Bool, false, cond, length, get_or, take, drop, eqb, Some, None, IsSome}
 use mathlib.Core.List.{List, [], ◌∷◌, ◌++◌, map, Memᴰ}
 use Rattle.model.specs.Trace.{Event, Trace}
 use Rattle.format.specs.Readable.{line_feed, Readable}
@@ -7,11 +7,8 @@ use Rattle.appending.specs.Appended.{Appends}
 use Rattle.wording.specs.Lines.{note_line, IsNote, event_line, InRange, IsEvent}
 use Rattle.composing.specs.Texts.{lines, said, line_of, joined, Listed}
 use Rattle.wording.specs.Reasons.{reason_of}
-use Rattle.wording.specs.declared.Reason.{Reason}
-use Rattle.composing.specs.declared.Text.{Text}
-use Rattle.composing.specs.declared.Text.TheVariants.{Bad}
+use Rattle.composing.specs.declared.BadLine.{BadLine}
 use Rattle.composing.specs.declared.Events.{Events}
-use Rattle.composing.specs.declared.Events.TheVariants.{Stopped, All}
 
 -- the line that begins at a place ends at `end`, and what follows the byte there are the lines after it
 pub record LineEnd (text : List ℕ) (at end : ℕ) : Type 0 where
@@ -92,16 +89,21 @@ pub record EventsRead (text : List ℕ) (from : ℕ) (th th' ki ki' ob ob' : Lis
   pub few : from + n ≤ at
 
 -- all lines from a place on but the comments are event lines, or the first that is none is reached
-pub data ReadsEvents (text : List ℕ) (from : ℕ) (th th' ki ki' ob ob' : List ℕ) : Events → Type 0 where
-  all : {n at : ℕ} → EventsRead text from th th' ki ki' ob ob' n at → length text ≤ at → ReadsEvents text from th th' ki ki' ob ob' (All n)
-  stopped : {n at : ℕ} {l : List ℕ} {more : List (List ℕ)} → EventsRead text from th th' ki ki' ob ob' n at → at < length text → lines (drop at text) ≡ l ∷ more
-      → ((e : Event) → ¬ IsEvent l e) → ReadsEvents text from th th' ki ki' ob ob' (Stopped n at)
+pub data ReadsEvents (text : List ℕ) (from : ℕ) (th th' ki ki' ob ob' : List ℕ) (v : Events) : Type 0 where
+  all : {at : ℕ} → EventsRead text from th th' ki ki' ob ob' v.count at → length text ≤ at → v.stop ≡ None → ReadsEvents text from th th' ki ki' ob ob' v
+  stopped : {at : ℕ} {l : List ℕ} {more : List (List ℕ)} → EventsRead text from th th' ki ki' ob ob' v.count at → at < length text → lines (drop at text) ≡ l ∷ more
+      → ((e : Event) → ¬ IsEvent l e) → v.stop ≡ Some at → ReadsEvents text from th th' ki ki' ob ob' v
 
 -- a line begins at a place, behind so many note lines and event lines; there are no more lines than bytes
 pub record StopsAt (text : List ℕ) (a n at : ℕ) : Type 0 where
   pub within : at < length text
   pub few : a + n + 1 ≤ length text
+  pub numbered : IsSome (line_of (a + n + 1) (lines text))
 
 -- the answer for the line that begins at a place, the m-th of those that are no comments
-pub data BadAt (text : List ℕ) (m at : ℕ) : Text → Type 0 where
-  bad_at : {n : ℕ} {l : List ℕ} {more : List (List ℕ)} {r : Reason} → n ≡ line_of m (lines text) → lines (drop at text) ≡ l ∷ more → r ≡ reason_of l → BadAt text m at (Bad n r)
+pub record BadAt (text : List ℕ) (m at : ℕ) (b : BadLine) : Type 0 where
+  pub line : List ℕ
+  pub more : List (List ℕ)
+  pub number : line_of m (lines text) ≡ Some b.number
+  pub there : lines (drop at text) ≡ line ∷ more
+  pub reason : b.reason ≡ reason_of line

@@ -1,5 +1,5 @@
 -- What reading a text gives.
-use Rattle.std.specs.Prelude.{ℕ, ◌+◌, ◌-◌, ◌*◌, ◌≤◌, ◌≡◌, cond, length, get_or, take, eqb}
+use Rattle.std.specs.Prelude.{ℕ, ◌+◌, ◌-◌, ◌*◌, ◌≤◌, ◌≡◌, cond, length, get_or, take, eqb, Option, Some, None, Result, Ok, Err}
 use mathlib.Core.List.{List, [], ◌∷◌, ◌++◌, map, Memᴰ}
 use Rattle.model.specs.Trace.{Event, Trace, thread_list, kind_list, object_list}
 use Rattle.limits.specs.Limits.{max_bytes}
@@ -7,9 +7,8 @@ use Rattle.format.specs.Readable.{line_feed, Readable}
 use Rattle.appending.specs.Appended.{Appends}
 use Rattle.wording.specs.Lines.{note_line, event_line, InRange, is_comment}
 use Rattle.wording.specs.Reasons.{reason_of}
-use Rattle.wording.specs.declared.Reason.{Reason}
-use Rattle.composing.specs.declared.Text.{Text}
-use Rattle.composing.specs.declared.Text.TheVariants.{Bad, Good}
+use Rattle.composing.specs.declared.Parts.{Parts}
+use Rattle.composing.specs.declared.BadLine.{BadLine}
 
 -- the most bytes of a text: eight for each byte of the longest file. Six are enough for its text (showing: text-short); the others are for comments
 abbrev pub text_bytes : ℕ
@@ -37,13 +36,13 @@ unfoldable pub said : List (List ℕ) → List (List ℕ)
 said [] = []
 said (l ∷ ls) = cond (is_comment l) (said ls) (l ∷ said ls)
 
--- the number of the line that is the m-th of those, with k lines before these; 0 where there is none
-abbrev pub line_from : ℕ → ℕ → List (List ℕ) → ℕ
-line_from k m [] = 0
-line_from k m (l ∷ ls) = cond (is_comment l) (line_from (k + 1) m ls) (cond (eqb m 1) (k + 1) (line_from (k + 1) (m - 1) ls))
+-- the number of the line that is the m-th of those, if there is one, with k lines before these
+abbrev pub line_from : ℕ → ℕ → List (List ℕ) → Option ℕ
+line_from k m [] = None
+line_from k m (l ∷ ls) = cond (is_comment l) (line_from (k + 1) m ls) (cond (eqb m 1) (Some (k + 1)) (line_from (k + 1) (m - 1) ls))
 
 -- lines are counted from 1, with the comments
-unfoldable pub line_of : ℕ → List (List ℕ) → ℕ
+unfoldable pub line_of : ℕ → List (List ℕ) → Option ℕ
 line_of m ls = line_from 0 m ls
 
 -- ---- what a text says
@@ -77,14 +76,14 @@ pub record FirstBad (text : List ℕ) (n : ℕ) : Type 0 where
 
 -- what each answer means: the lines make a recording, or there is a first bad line, with the reason; the preamble and the events of the lines, or of those before
 -- the bad one, stand in the front of what is lent, the rest of which is as it was
-pub data ReadsText (text pre pre' th th' ki ki' ob ob' : List ℕ) : Text → Type 0 where
-  good : {notes : List (List ℕ)} {es : Trace} {a p n : ℕ} → Makes (lines text) notes es → a ≡ length notes → n ≡ length es
-      → Appends (joined notes) 0 pre pre' p → Listed es th th' ki ki' ob ob' n → ReadsText text pre pre' th th' ki ki' ob ob' (Good a p n)
-  bad_line : {n p m : ℕ} {r : Reason} (x : FirstBad text n) → r ≡ reason_of (line_at n text) → Appends (joined x.notes) 0 pre pre' p → Listed x.es th th' ki ki' ob ob' m
-      → ReadsText text pre pre' th th' ki ki' ob ob' (Bad n r)
+pub data ReadsText (text pre pre' th th' ki ki' ob ob' : List ℕ) : Result Parts BadLine → Type 0 where
+  good : {notes : List (List ℕ)} {es : Trace} {v : Parts} → Makes (lines text) notes es → v.notes ≡ length notes → v.events ≡ length es
+      → Appends (joined notes) 0 pre pre' v.preamble → Listed es th th' ki ki' ob ob' v.events → ReadsText text pre pre' th th' ki ki' ob ob' (Ok v)
+  bad_line : {b : BadLine} {p m : ℕ} (x : FirstBad text b.number) → b.reason ≡ reason_of (line_at b.number text) → Appends (joined x.notes) 0 pre pre' p → Listed x.es th th' ki ki' ob ob' m
+      → ReadsText text pre pre' th th' ki ki' ob ob' (Err b)
 
 -- two answers are one, and what is lent holds the same in the end
-pub record Settled (r s : Text) (pre pre' th th' ki ki' ob ob' : List ℕ) : Type 0 where
+pub record Settled (r s : Result Parts BadLine) (pre pre' th th' ki ki' ob ob' : List ℕ) : Type 0 where
   pub answer : r ≡ s
   pub preamble : pre ≡ pre'
   pub threads : th ≡ th'

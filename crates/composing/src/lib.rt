@@ -10,18 +10,24 @@ use format::NoteByte;
 use limits::Recording;
 use wording::{COMMENT, Line, NOTE_BYTES, Reason};
 
+// The loops over lines go from the place where one begins to where the next does. An iterator over the lines would be no plainer: the place at which a loop stops is what it hands on, and it would be counted beside.
+
 // The most bytes of a text: eight for each byte of the longest file. Six are enough for its text; the others are for comments.
 pub const TEXT_BYTES: usize = 8 * Recording::MAX_BYTES;
 
-// What a text is: the number of its first bad line and why it is bad, or how many note lines, bytes of preamble and events it has.
-#[derive(Clone, Copy)]
-pub enum Text {
-    Bad(usize, Reason),
-    Good {
-        notes: usize,
-        preamble: usize,
-        events: usize,
-    },
+// How many note lines, bytes of preamble and events a text has.
+#[derive(Clone, Copy, PartialEq, Eq, Debug)]
+pub struct Parts {
+    pub notes: usize,
+    pub preamble: usize,
+    pub events: usize,
+}
+
+// The number of the first bad line of a text, and why it is bad.
+#[derive(Clone, Copy, PartialEq, Eq, Debug)]
+pub struct BadLine {
+    pub number: usize,
+    pub reason: Reason,
 }
 
 // The note lines at the front of a text: how many they are, the bytes of the preamble, and where the first other line begins.
@@ -32,11 +38,11 @@ pub struct Notes {
     pub end: usize,
 }
 
-// How many event lines there are, before another line, with where that begins, or the end.
+// How many event lines there are, and where the first other line behind them begins, if there is one.
 #[derive(Clone, Copy)]
-pub enum Events {
-    Stopped(usize, usize),
-    All(usize),
+pub struct Events {
+    pub count: usize,
+    pub stop: Option<usize>,
 }
 
 // Where the line that begins at a place ends.
@@ -52,11 +58,7 @@ fn next_line(text: &[u8], at: usize) -> usize
     requires { at < length text.now }
     ensures { NextLine text.now at result }
 {
-    let end = line_end(text, at);
-    if end == text.len() {
-        return end;
-    }
-    end + 1
+    (line_end(text, at) + 1).min(text.len())
 }
 
 // Where the first line from a place on begins that is no comment, or the end.
@@ -65,10 +67,7 @@ fn skip_comments(text: &[u8], from: usize) -> usize
     ensures { Skips text.now from result }
 {
     let mut at = from;
-    while at < text.len() {
-        if text[at] != COMMENT {
-            return at;
-        }
+    while at < text.len() && text[at] == COMMENT {
         at = next_line(text, at);
     }
     at
@@ -85,8 +84,8 @@ fn next_said(text: &[u8], end: usize) -> usize
     skip_comments(text, end + 1)
 }
 
-// The number of the line that is the m-th of those that are no comments, or 0.
-pub fn line_of(text: &[u8], m: usize) -> usize
+// The number of the line that is the m-th of those that are no comments.
+pub fn line_of(text: &[u8], m: usize) -> Option<usize>
     ensures { result ≡ line_of m (lines text.now) }
 {
     let mut seen = 0;
@@ -95,17 +94,15 @@ pub fn line_of(text: &[u8], m: usize) -> usize
     while at < text.len() {
         let next = next_line(text, at);
         number += 1;
-        if text[at] == COMMENT {
-            at = next;
-            continue;
-        }
-        seen += 1;
-        if seen == m {
-            return number;
+        if text[at] != COMMENT {
+            seen += 1;
+            if seen == m {
+                return Some(number);
+            }
         }
         at = next;
     }
-    0
+    None
 }
 
 // Puts the text of a note line behind those of the note lines before it.
@@ -158,37 +155,43 @@ fn read_events(
     requires { ListsLent text.now from threads.old kinds.old objects.old }
     ensures { ReadsEvents text.now from threads.old threads.new kinds.old kinds.new objects.old objects.new result }
 {
-    let mut n = 0;
+    let mut count = 0;
     let mut at = from;
     while at < text.len() {
         let end = line_end(text, at);
-        match wording::read_line(&text[at..end]) {
+        let Some(
             Line::Event {
                 thread,
                 kind,
                 object,
-            } => {
-                threads[n] = thread;
-                kinds[n] = kind;
-                objects[n] = object;
-                n += 1;
-                at = next_said(text, end);
-            }
-            Line::Note => return Events::Stopped(n, at),
-            Line::Bad => return Events::Stopped(n, at),
-        }
+            },
+        ) = wording::read_line(&text[at..end])
+        else {
+            return Events {
+                count,
+                stop: Some(at),
+            };
+        };
+        threads[count] = thread;
+        kinds[count] = kind;
+        objects[count] = object;
+        count += 1;
+        at = next_said(text, end);
     }
-    Events::All(n)
+    Events { count, stop: None }
 }
 
 // The bad line that begins at a place, behind so many note lines and event lines.
-fn bad_line(text: &[u8], notes: usize, events: usize, at: usize) -> Text
+fn bad_line(text: &[u8], notes: usize, events: usize, at: usize) -> BadLine
     requires { StopsAt text.now notes events at }
     ensures { BadAt text.now (notes + events + 1) at result }
 {
-    let n = line_of(text, notes + events + 1);
+    let number = line_of(text, notes + events + 1).unwrap();
     let end = line_end(text, at);
-    Text::Bad(n, wording::reason_of(&text[at..end]))
+    BadLine {
+        number,
+        reason: wording::reason_of(&text[at..end]),
+    }
 }
 
 // Reads a text: the preamble and the events stand in the front of what is lent then.
@@ -198,18 +201,18 @@ pub fn read_text(
     threads: &mut [u8],
     kinds: &mut [u8],
     objects: &mut [u16],
-) -> Text
+) -> Result<Parts, BadLine>
     requires { Lent text.now preamble.old threads.old kinds.old objects.old }
     ensures { ReadsText text.now preamble.old preamble.new threads.old threads.new kinds.old kinds.new objects.old objects.new result }
 {
     let notes = read_notes(text, preamble);
-    let end = notes.end;
-    match read_events(text, end, threads, kinds, objects) {
-        Events::Stopped(n, at) => bad_line(text, notes.lines, n, at),
-        Events::All(n) => Text::Good {
-            notes: notes.lines,
-            preamble: notes.bytes,
-            events: n,
-        },
+    let events = read_events(text, notes.end, threads, kinds, objects);
+    if let Some(at) = events.stop {
+        return Err(bad_line(text, notes.lines, events.count, at));
     }
+    Ok(Parts {
+        notes: notes.lines,
+        preamble: notes.bytes,
+        events: events.count,
+    })
 }
