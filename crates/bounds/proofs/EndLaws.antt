@@ -1,10 +1,10 @@
--- Where the intervals of P end: the ways through the steps, and the pass.
+-- Where the intervals of P end: the pass.
 use Prim.Native.Nat.{ℕ, ◌+◌, ◌≤◌, ◌<◌}
 use native.Mathlib.Omega.{arith}
 use native.Mathlib.Numerals.{add-one}
 use mathlib.Core.Path.{◌≡◌, refl, sym, ◌∙◌, ap, subst}
 use mathlib.Core.Logic.{◌≢◌}
-use mathlib.Core.Bool.{Bool, true, false, cond, not}
+use mathlib.Core.Bool.{true, cond, not}
 use mathlib.Core.List.Memᴰ
 use mathlib.Core.List.{List}
 use lib.ListN.{length, get_or, set, length-set}
@@ -12,7 +12,7 @@ use lib.Seq.{get_or-set_same, get_or-set_other}
 use lib.Dec.{eqb}
 use borrow.Author.Tests.{eqb-true, eqb-false, eq-eqb, ne_eqb}
 use Rattle.model.specs.Trace.{Trace, Valid, thread_of}
-use Rattle.model.specs.Lists.{◌∈◌, nearest, just, passed}
+use Rattle.model.specs.Lists.{◌∈◌, nearest, passed}
 use Rattle.model.proofs.Tests.{by_cases, in_cons, true_both, true-just}
 use Rattle.model.proofs.Lists.{get_d_mem, reverse_mem, nearest-none}
 use Rattle.model.proofs.Passed.{passed-suc, passed-all, passed_in, passed_below}
@@ -25,14 +25,6 @@ use Rattle.bounds.specs.Steps.{with_end}
 
 -- ---- `is_own`
 
-pub own-none : (t : Trace) (m w : ℕ) → w ≡ 0 → false ≡ is_own t m w
-unfolding is_own
-own-none t m w e = rw (eq-eqb w 0 e)
-
-pub own_thread : (t : Trace) (m w c : ℕ) → (w ≡ 0 → ⊥) → c ≡ thread_of t w → eqb c m ≡ is_own t m w
-unfolding is_own just
-own_thread t m w c ne e = rw (ne_eqb w 0 ne, e)
-
 pub true-own : (t : Trace) (m w : ℕ) → w ≢ 0 → thread_of t w ≡ m → is_own t m w ≡ true
 unfolding is_own
 true-own t m w ne e = true_both (ap not (ne_eqb w 0 ne)) (true-just m (thread_of t w) e)
@@ -43,17 +35,8 @@ module _ (t : Trace) (m e : ℕ) (v : Valid t e) (w : ℕ) (ew : w ≡ began t e
   pub began_few : w ≤ length t
   began_few = let l = began-le t e v.positive in let b = v.bounded in omega arith
 
-  module _ (ends : List ℕ) (b : Bool) (eb : b ≡ is_own t m w) where
-    pub end_room : length t < length ends → w < length (set ends e 0)
-    end_room h = let l = began_few in let n = length-set ends e 0 in omega arith
-
-    pub end_own : b ≡ true → set (set ends e 0) w e ≡ with_end t m e ends
-    unfolding with_end
-    end_own i = rw (← ew, ← eb, i) refl
-
-    pub end_other : b ≡ false → set ends e 0 ≡ with_end t m e ends
-    unfolding with_end
-    end_other i = rw (← ew, ← eb, i) refl
+  pub end_room : (ends : List ℕ) → length t < length ends → w < length (set ends e 0)
+  end_room ends h = let l = began_few in let n = length-set ends e 0 in omega arith
 
 -- ---- `add_ends`
 

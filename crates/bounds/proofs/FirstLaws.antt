@@ -1,4 +1,4 @@
--- What an event of Q needs by what it waits for, observed or overwrote: the ways through the steps, and the pass.
+-- What an event of Q needs by what it waits for, observed or overwrote: the pass.
 use Prim.Native.Nat.{ℕ, suc, ◌+◌, ◌≤◌, ◌<◌, zero-le}
 use native.Mathlib.Omega.{arith}
 use native.Mathlib.Numerals.{add-one}
@@ -10,7 +10,7 @@ use mathlib.Core.List.{List, ◌∷◌}
 use lib.ListN.{length, get_or, set, replicate, length-set}
 use lib.Seq.{get_or-set_same, get_or-set_other}
 use lib.Dec.{eqb, ltb}
-use borrow.Author.Tests.{eqb-true, eqb-false, eq-eqb, ne_eqb, ltb-true, lt-ltb, le-ltb, not-true}
+use borrow.Author.Tests.{eqb-true, eqb-false, eq-eqb, ne_eqb, ltb-true, lt-ltb, not-true}
 use Rattle.model.specs.Trace.{Trace, Valid, read, write, fork, join, thread_of, kind_of, object_of, does}
 use Rattle.model.specs.Lists.{◌∈◌, nearest, listed, just, passed}
 use Rattle.model.specs.Observed.{observed}
@@ -47,31 +47,6 @@ own-true t m w e =
     let p = both (not (eqb w 0)) (just m (thread_of t w)) e in
     (eqb-false w 0 (not-true _ p.0), just-true m (thread_of t w) p.1)
 
--- ---- `outside`
-
-module _ (t : Trace) (m e q : ℕ) (eq : q ≡ kind_of t e) where
-  pub outside_no-read : (q ≡ read → ⊥) → false ≡ is_outside t m e
-  unfolding is_outside
-  outside_no-read ne = rw (ne_eqb (kind_of t e) read (λ z. ne (eq ∙ z)))
-
-  pub outside_read : q ≡ read → (w : ℕ) → w ≡ waits_for t e → (b : Bool) → b ≡ is_own t m w → not b ≡ is_outside t m e
-  unfolding is_outside
-  outside_read r w ew b eb =
-      let d : kind_of t e ≡ read = sym eq ∙ r in
-      let o : is_own t m (observed t e) ≡ b = ap (is_own t m) (sym (reads_observed t e d) ∙ sym ew) ∙ sym eb in
-      rw (eq-eqb _ _ d, o)
-
--- ---- `note_read`
-
-module _ (t : Trace) (m e : ℕ) (seen : List ℕ) (b : Bool) (eb : b ≡ is_outside t m e) where
-  pub note_outside : b ≡ true → (x : ℕ) → x ≡ object_of t e → set seen x e ≡ with_read t m e seen
-  unfolding with_read
-  note_outside i x ex = rw (← eb, i, ex) refl
-
-  pub note_inside : b ≡ false → seen ≡ with_read t m e seen
-  unfolding with_read
-  note_inside i = rw (← eb, i) refl
-
 -- ---- `note_reads`
 
 module _ {s : List ℕ} {m : ℕ} {P : List ℕ} {k i : ℕ} {seen : List ℕ} (p : Reading s m P k i seen) where
@@ -81,8 +56,11 @@ module _ {s : List ℕ} {m : ℕ} {P : List ℕ} {k i : ℕ} {seen : List ℕ} (
   pub reading_stop : i < length P → (e : ℕ) → e ≡ get_or P i 0 → k ≤ e → Read s m P k i seen
   reading_stop h e ee l = record { reading = p; all = λ y n lt. below_passed P i p.up h y n (omega arith) }
 
-  pub reading_end : length P ≤ i → Read s m P k i seen
-  reading_end h = record { reading = p; all = λ e n l. rw (passed-all P i h) (reverse_mem n) }
+  pub reading_end : length P ≤ i → Read s m P k (length P) seen
+  reading_end h =
+      let f = p.few in
+      let e : length P ≡ i = omega arith in
+      rw e (record { reading = p; all = λ e n l. rw (passed-all P i h) (reverse_mem n) })
 
   module _ (h : i < length P) (e : ℕ) (ee : e ≡ get_or P i 0) where
     pub reading_valid : Valid (trace s) e
@@ -107,36 +85,6 @@ module _ {s : List ℕ} {m : ℕ} {P : List ℕ} {k i : ℕ} {seen : List ℕ} (
           below = λ y n. in_cons (rw a at n) (λ z. let d : y ≡ e = z in omega arith) (p.below y);
           knows = rw a knows_more;
         })
-
--- ---- `own_event`, `action_bound` and `first_bound`
-
-module _ (t : Trace) (m w : ℕ) (b : Bool) (eb : b ≡ is_own t m w) where
-  pub event_own : b ≡ true → w ≡ own_event t m w
-  unfolding own_event
-  event_own i = rw (← eb, i)
-
-  pub event_none : b ≡ false → 0 ≡ own_event t m w
-  unfolding own_event
-  event_none i = rw (← eb, i)
-
-module _ (t : Trace) (m k : ℕ) (seen : List ℕ) where
-  module _ (q : ℕ) (eq : q ≡ kind_of t k) where
-    pub action_write : q ≡ write → (x : ℕ) → x ≡ object_of t k → get_or seen x 0 ≡ action_bound t m k seen
-    unfolding action_bound
-    action_write e x ex = let d : kind_of t k ≡ write = sym eq ∙ e in rw (eq-eqb _ _ d, ex)
-
-    pub action_waits : (q ≡ write → ⊥) → (w : ℕ) → w ≡ waits_for t k → (r : ℕ) → r ≡ own_event t m w → r ≡ action_bound t m k seen
-    unfolding action_bound
-    action_waits nw w ew r er = er ∙ rw (ne_eqb (kind_of t k) write (λ z. nw (eq ∙ z)), ← ew)
-
-  module _ (a : ℕ) (ea : a ≡ action_bound t m k seen) (w : ℕ) (ew : w ≡ fork_of t k) (f : ℕ) (ef : f ≡ own_event t m w) where
-    pub first-fork : a < f → f ≡ first_bound t m k seen
-    unfolding first_bound
-    first-fork h = rw (← ea, ← ew, ← ef, lt-ltb a f h)
-
-    pub first_action : f ≤ a → a ≡ first_bound t m k seen
-    unfolding first_bound
-    first_action h = rw (← ea, ← ew, ← ef, le-ltb a f h)
 
 -- ---- what it is
 

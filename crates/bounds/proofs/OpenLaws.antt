@@ -1,4 +1,4 @@
--- What a section of Q that has no end needs: the ways through the steps, and the passes.
+-- What a section of Q that has no end needs: the passes.
 use Prim.Native.Nat.{ℕ, suc, ◌+◌, ◌≤◌, ◌<◌}
 use native.Mathlib.Omega.{arith}
 use native.Mathlib.Numerals.{add-one}
@@ -27,26 +27,13 @@ use Rattle.model.proofs.MatchingExact.{matching_ends}
 use Rattle.decision.proofs.IntervalTests.{alike_true, true_alike, true_opening}
 use Rattle.stairs.specs.Stairs.{at}
 use Rattle.table.specs.Table.{trace, Linked}
-use Rattle.table.specs.Links.{release_of, began}
-use Rattle.table.proofs.LinkFacts.{acquires_release}
+use Rattle.table.specs.Links.{began}
 use Rattle.table.proofs.BeganFacts.{opening_began, began_opening, began_within, within_began}
 use Rattle.bounds.specs.Parts.{Parts}
 use Rattle.bounds.specs.Bounds.{end_in, Last, Bound, Given, Ended, Needed, Covers}
-use Rattle.bounds.specs.Steps.{raised_to, FirstTwo, with_section, InSection, Sections, is_open_in, with_open}
+use Rattle.bounds.specs.Steps.{FirstTwo, with_section, InSection, Sections, is_open_in, with_open}
 use Rattle.bounds.proofs.LastLaws.{last_map, last_two}
 use Rattle.bounds.proofs.OverLaws.{raised-length, raised_here, raised-other}
-
--- ---- `note_section`
-
-module _ (t : Trace) (v : ℕ) (ends last : List ℕ) (q : ℕ) (eq : q ≡ kind_of t v) where
-  pub section_none : (q ≡ acquire → ⊥) → last ≡ with_section t v ends last
-  unfolding with_section
-  section_none ne = rw (ne_eqb (kind_of t v) acquire (λ z. ne (eq ∙ z)))
-
-  module _ (i : q ≡ acquire) (x : ℕ) (ex : x ≡ object_of t v) where
-    pub section_more : {last' : List ℕ} → last' ≡ raised_to last x (at ends v) → last' ≡ with_section t v ends last
-    unfolding with_section
-    section_more e = let d : kind_of t v ≡ acquire = sym eq ∙ i in e ∙ rw (eq-eqb _ _ d, ← ex) refl
 
 -- ---- `note_sections`
 
@@ -156,49 +143,18 @@ outer : (t : Trace) (v : ℕ) → kind_of t v ≡ acquire → is_opening t v ≡
 unfolding is_opening
 outer t v a o = ⊎_elim (λ z. let d : kind_of t v ≡ write = eqb-true _ _ z in absurd (omega arith)) (λ z. z) (either_true (eqb (kind_of t v) write) (is_outermost t v) o)
 
-module _ (t : Trace) (tops : List ℕ) (k q : ℕ) (eq : q ≡ kind_of t k) where
-  pub open_no-acquire : (q ≡ acquire → ⊥) → false ≡ is_open_in t tops k
-  unfolding is_open_in is_outermost
-  open_no-acquire ne = rw (ne_eqb (kind_of t k) acquire (λ z. ne (eq ∙ z)))
+module _ (t : Trace) (k : ℕ) where
+  pub no_section : kind_of t k ≢ acquire → is_outermost t k ≡ false
+  unfolding is_outermost
+  no_section ne = rw (ne_eqb (kind_of t k) acquire ne)
 
-  module _ (a : q ≡ acquire) (w : ℕ) (ew : w ≡ began t k) where
-    kind : kind_of t k ≡ acquire
-    kind = sym eq ∙ a
+  pub inner : began t k ≢ k → is_outermost t k ≡ false
+  inner ne = false_test (λ o. opening_began t k (true_opening t k (inr o))) ne
 
-    pub open_inner : (w ≡ k → ⊥) → false ≡ is_open_in t tops k
-    unfolding is_open_in
-    open_inner ne =
-        let n : is_outermost t k ≡ false = false_test (λ o. ew ∙ opening_began t k (true_opening t k (inr o))) (λ z. ne z) in
-        rw n
-
-    module _ (v : Valid t k) (e : w ≡ k) (r : ℕ) (er : r ≡ release_of t k) where
-      outermost : is_outermost t k ≡ true
-      outermost =
-          let p = v.positive in
-          let d = sym ew ∙ e in
-          outer t k kind (rw d at (began_opening t k (λ z. let u : ⊥ = omega arith in u)))
-
-      matches : matching t k ≡ r
-      matches = sym (acquires_release t k kind) ∙ sym er
-
-      pub open_never : r ≡ 0 → true ≡ is_open_in t tops k
-      unfolding is_open_in
-      open_never z = rw (outermost, matches, z)
-
-      pub open_beyond : (r ≡ 0 → ⊥) → (c : ℕ) → c ≡ thread_of t k → (x : ℕ) → x ≡ get_or tops c 0 → ltb x r ≡ is_open_in t tops k
-      unfolding is_open_in
-      open_beyond ne c ec x ex = rw (outermost, matches, ne_eqb r 0 ne, ex, ec)
-
--- ---- `add_open`
-
-module _ (t : Trace) (tops : List ℕ) (k : ℕ) (last need : List ℕ) (b : Bool) (eb : b ≡ is_open_in t tops k) where
-  pub add_open : b ≡ true → (x : ℕ) → x ≡ object_of t k → {need' : List ℕ} → need' ≡ raised_to need k (get_or last x 0) → need' ≡ with_open t tops k last need
-  unfolding with_open
-  add_open i x ex q = q ∙ rw (← eb, i, ex) refl
-
-  pub add_closed : b ≡ false → need ≡ with_open t tops k last need
-  unfolding with_open
-  add_closed i = rw (← eb, i) refl
+  pub outermost : Valid t k → kind_of t k ≡ acquire → began t k ≡ k → is_outermost t k ≡ true
+  outermost v a e =
+      let p = v.positive in
+      outer t k a (rw e at (began_opening t k (λ z. let u : ⊥ = omega arith in u)))
 
 -- ---- what a section of Q needs
 

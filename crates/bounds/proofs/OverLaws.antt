@@ -1,4 +1,4 @@
--- What a write of Q needs by the reads of P that observed it: the ways through the steps, and the pass.
+-- What a write of Q needs by the reads of P that observed it: the pass.
 use Prim.Native.Nat.{ℕ, suc, ◌+◌, ◌≤◌, ◌<◌}
 use native.Mathlib.Omega.{arith}
 use native.Mathlib.Numerals.{add-one}
@@ -7,14 +7,14 @@ use mathlib.Core.Logic.{◌≢◌, ◌⊎◌, inl, inr, ⊎_elim}
 use mathlib.Core.Bool.{Bool, true, false, cond, ◌&&◌, not}
 use mathlib.Core.List.Memᴰ
 use mathlib.Core.List.{List, ◌∷◌}
-use lib.ListN.{length, get_or, set, replicate, length-set}
+use lib.ListN.{length, get_or, replicate, length-set}
 use lib.Seq.{get_or-set_same, get_or-set_other}
 use lib.Dec.{eqb, ltb}
-use borrow.Author.Tests.{eqb-true, eqb-false, eq-eqb, ne_eqb, ltb-true, lt-ltb, le-ltb}
+use borrow.Author.Tests.{eqb-true, eqb-false, eq-eqb, ne_eqb, ltb-true, lt-ltb}
 use Rattle.model.specs.Trace.{Trace, Valid, read, write, kind_of, object_of, does}
 use Rattle.model.specs.Lists.{◌∈◌, nearest, passed}
 use Rattle.model.specs.Observed.{observed, last_write}
-use Rattle.model.specs.Good.{Good, max_object}
+use Rattle.model.specs.Good.{max_object}
 use Rattle.model.proofs.Tests.{by_cases, in_cons, clash, both, true_both, object_small}
 use Rattle.model.proofs.Lists.{get_d_mem, reverse_mem, mem_reverse, nearest_mem, nearest_passes, any_mem, mem_any}
 use Rattle.model.proofs.Passed.{passed-suc, passed-all, passed_in, passed_below, below_passed, passed_last}
@@ -23,26 +23,16 @@ use Rattle.decision.specs.Stairs.{is_read_over}
 use Rattle.decision.proofs.IntervalTests.{observed-true, true-observed}
 use Rattle.stairs.specs.Stairs.{at}
 use Rattle.table.specs.Table.{trace}
-use Rattle.table.specs.Links.{waits_for}
 use Rattle.table.specs.Entries.{Entries, with_write}
-use Rattle.table.proofs.LinkFacts.{reads_observed}
 use Rattle.table.proofs.EntryLaws.{entries_new, write_known}
 use Rattle.bounds.specs.Bounds.{is_own, Last, Needs, Given, Needed}
 use Rattle.bounds.specs.Steps.{raised_to, is_other, with_over, Over, First, FirstTwo}
-use Rattle.bounds.proofs.FirstLaws.{own-true, waits_few}
+use Rattle.bounds.proofs.FirstLaws.{own-true}
 use Rattle.bounds.proofs.LastLaws.{last_map, last_two}
 
 -- ---- `raise`
 
 module _ (l : List ℕ) (k v : ℕ) where
-  pub raise_more : at l k < v → set l k v ≡ raised_to l k v
-  unfolding raised_to
-  raise_more h = rw (lt-ltb (at l k) v h)
-
-  pub raise_same : v ≤ at l k → l ≡ raised_to l k v
-  unfolding raised_to
-  raise_same h = rw (le-ltb (at l k) v h)
-
   pub raised-length : length (raised_to l k v) ≡ length l
   unfolding raised_to
   raised-length = by_cases (ltb (at l k) v) (λ e. rw e (length-set l k v)) (λ e. rw e)
@@ -54,53 +44,6 @@ module _ (l : List ℕ) (k v : ℕ) where
   pub raised-other : (j : ℕ) → j ≢ k → at (raised_to l k v) j ≡ at l j
   unfolding raised_to
   raised-other j ne = by_cases (ltb (at l k) v) (λ e. rw e (get_or-set_other l k j v 0 ne)) (λ e. rw e)
-
--- ---- `note_write`
-
-module _ (t : Trace) (e : ℕ) (last : List ℕ) (q : ℕ) (eq : q ≡ kind_of t e) where
-  pub note_write : q ≡ write → (x : ℕ) → x ≡ object_of t e → set last x e ≡ with_write t e last
-  unfolding with_write
-  note_write i x ex = let d : kind_of t e ≡ write = sym eq ∙ i in rw (eq-eqb _ _ d, ex)
-
-  pub note_no-write : (q ≡ write → ⊥) → last ≡ with_write t e last
-  unfolding with_write
-  note_no-write ne = rw (ne_eqb (kind_of t e) write (λ z. ne (eq ∙ z)))
-
--- ---- `is_other`
-
-module _ (t : Trace) (m w : ℕ) where
-  pub other_none : w ≡ 0 → false ≡ is_other t m w
-  unfolding is_other
-  other_none e = rw (eq-eqb w 0 e)
-
-  pub other_thread : (w ≡ 0 → ⊥) → (b : Bool) → b ≡ is_own t m w → not b ≡ is_other t m w
-  unfolding is_other
-  other_thread ne b eb = rw (ne_eqb w 0 ne, eb)
-
--- ---- `read_over`
-
-pub over_room : {t : Trace} → Good t → (e w : ℕ) → w ≡ waits_for t e → (need : List ℕ) → Valid t e → length t < length need → w < length need
-over_room g e w ew need v h = let l = waits_few g e v w ew in omega arith
-
-module _ (t : Trace) (m e q : ℕ) (eq : q ≡ kind_of t e) (last need : List ℕ) where
-  pub over_no-read : (q ≡ read → ⊥) → need ≡ with_over t m e last need
-  unfolding with_over
-  over_no-read ne = rw (ne_eqb (kind_of t e) read (λ z. ne (eq ∙ z)))
-
-  module _ (i : q ≡ read) (w : ℕ) (ew : w ≡ waits_for t e) (b : Bool) (eb : b ≡ is_other t m w) where
-    reads : kind_of t e ≡ read
-    reads = sym eq ∙ i
-
-    seen : observed t e ≡ w
-    seen = sym (reads_observed t e reads) ∙ sym ew
-
-    pub over_other : b ≡ true → (x : ℕ) → x ≡ object_of t e → {need' : List ℕ} → need' ≡ raised_to need w (get_or last x 0) → need' ≡ with_over t m e last need
-    unfolding with_over
-    over_other j x ex r = r ∙ rw (eq-eqb _ _ reads, seen, ← eb, j, ex) refl
-
-    pub over_none : b ≡ false → need ≡ with_over t m e last need
-    unfolding with_over
-    over_none j = rw (eq-eqb _ _ reads, seen, ← eb, j) refl
 
 -- ---- `add_over`
 

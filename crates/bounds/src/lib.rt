@@ -13,17 +13,16 @@ ghost use Rattle.bounds.specs.Steps.{with_end, raised_to, is_outside, with_read,
 use limits::{Event, Thread};
 
 // Is w, which may be 0, an event of thread m?
+#[tactic(auto, unfolding(crate::specs::Bounds::is_own, model::specs::Lists::just))]
 fn is_own(table: &[u16], m: u8, w: usize) -> bool
     requires { w ≤ length (trace table.now) }
     ensures { result ≡ is_own (trace table.now) m w }
 {
-    if w == 0 {
-        return false;
-    }
-    table::thread_at(table, w) == m
+    w != 0 && table::thread_at(table, w) == m
 }
 
 // Event e of p is the last so far of its interval, where that begins in p.
+#[tactic(auto, using(crate::proofs::EndLaws::began_few, crate::proofs::EndLaws::end_room), unfolding(crate::specs::Steps::with_end))]
 fn add_end(table: &[u16], m: u8, e: usize, ends: &mut [u16])
     requires { Linked table.now × (Valid (trace table.now) e × (length (trace table.now) < length ends.old)) }
     ensures { ends.new ≡ with_end (trace table.now) m e ends.old }
@@ -40,25 +39,22 @@ fn add_ends(table: &[u16], m: u8, p: &[u16], q: &[u16], ends: &mut [u16])
     requires { Given table.now m p.now q.now ends.old }
     ensures { Ended table.now m p.now q.now ends.new }
 {
-    let mut i = 0;
-    while i < p.len() {
-        add_end(table, m, table::wide(p[i]), ends);
-        i += 1;
+    for e in p {
+        add_end(table, m, table::wide(*e), ends);
     }
 }
 
 // Is event e a read that saw no write of thread m?
+#[tactic(auto, using(crate::proofs::FirstLaws::waits_few, table::proofs::LinkFacts::reads_observed), unfolding(crate::specs::Steps::is_outside))]
 fn outside(table: &[u16], m: u8, e: usize) -> bool
     requires { Linked table.now × Valid (trace table.now) e }
     ensures { result ≡ is_outside (trace table.now) m e }
 {
-    if table::kind_at(table, e) != Event::READ {
-        return false;
-    }
-    !is_own(table, m, table::waits_at(table, e))
+    table::kind_at(table, e) == Event::READ && !is_own(table, m, table::waits_at(table, e))
 }
 
 // Event e of p, where it is such a read, is the last of its cell so far.
+#[tactic(auto, unfolding(crate::specs::Steps::with_read))]
 fn note_read(table: &[u16], m: u8, e: usize, seen: &mut [u16; Event::OBJECTS])
     requires { Linked table.now × Valid (trace table.now) e }
     ensures { seen.new ≡ with_read (trace table.now) m e seen.old }
@@ -81,31 +77,28 @@ fn note_reads(
     requires { Reading table.now m p.now k from seen.old }
     ensures { Read table.now m p.now k result seen.new }
 {
-    let mut i = from;
-    while i < p.len() {
+    for i in from..p.len() {
         let e = table::wide(p[i]);
         if k <= e {
             return i;
         }
         note_read(table, m, e, seen);
-        i += 1;
     }
-    i
+    p.len()
 }
 
 // w, where it is an event of thread m; 0 otherwise.
+#[tactic(auto, unfolding(crate::specs::Steps::own_event))]
 fn own_event(table: &[u16], m: u8, w: usize) -> u16
     requires { (w ≤ length (trace table.now)) × (w < 65536) }
     ensures { result ≡ own_event (trace table.now) m w }
 {
-    if is_own(table, m, w) {
-        return w as u16;
-    }
-    0
+    if is_own(table, m, w) { w as u16 } else { 0 }
 }
 
 // What event k of q needs by what it does: the write of p that it observed, the last event of p where it joins the moved thread, or the last read of p
 // before it that it overwrote.
+#[tactic(auto, using(crate::proofs::FirstLaws::waits_few), unfolding(crate::specs::Steps::action_bound))]
 fn action_bound(table: &[u16], m: u8, k: usize, seen: &[u16; Event::OBJECTS]) -> u16
     requires { Linked table.now × Valid (trace table.now) k }
     ensures { result ≡ action_bound (trace table.now) m k seen.now }
@@ -118,16 +111,13 @@ fn action_bound(table: &[u16], m: u8, k: usize, seen: &[u16; Event::OBJECTS]) ->
 }
 
 // And where its thread was forked by p, the fork.
+#[tactic(auto, using(crate::proofs::FirstLaws::fork_few), unfolding(crate::specs::Steps::first_bound))]
 fn first_bound(table: &[u16], m: u8, k: usize, seen: &[u16; Event::OBJECTS]) -> u16
     requires { Linked table.now × Valid (trace table.now) k }
     ensures { result ≡ first_bound (trace table.now) m k seen.now }
 {
     let bound = action_bound(table, m, k, seen);
-    let fork = own_event(table, m, table::forked_at(table, k));
-    if bound < fork {
-        return fork;
-    }
-    bound
+    bound.max(own_event(table, m, table::forked_at(table, k)))
 }
 
 // What each event of q needs by what it waits for, observed or overwrote. The two lists are walked in the trace's order.
@@ -137,26 +127,24 @@ fn add_first(table: &[u16], m: u8, p: &[u16], q: &[u16], need: &mut [u16])
 {
     let mut seen = [0u16; Event::OBJECTS];
     let mut i = 0;
-    let mut j = 0;
-    while j < q.len() {
-        let k = table::wide(q[j]);
+    for event in q {
+        let k = table::wide(*event);
         i = note_reads(table, m, p, &mut seen, i, k);
         need[k] = first_bound(table, m, k, &seen);
-        j += 1;
     }
 }
 
 // Entry k of a table is at least v.
+#[tactic(auto, unfolding(crate::specs::Steps::raised_to))]
 fn raise(list: &mut [u16], k: usize, v: u16)
     requires { k < length list.old }
     ensures { list.new ≡ raised_to list.old k v }
 {
-    if list[k] < v {
-        list[k] = v;
-    }
+    list[k] = list[k].max(v);
 }
 
 // Event e of p, where it is a write, is the last of its cell so far.
+#[tactic(auto, unfolding(table::specs::Entries::with_write))]
 fn note_write(table: &[u16], e: usize, last: &mut [u16; Event::OBJECTS])
     requires { Linked table.now × Valid (trace table.now) e }
     ensures { last.new ≡ with_write (trace table.now) e last.old }
@@ -168,17 +156,16 @@ fn note_write(table: &[u16], e: usize, last: &mut [u16; Event::OBJECTS])
 }
 
 // Is w, which may be 0, an event of another thread than m?
+#[tactic(auto, unfolding(crate::specs::Steps::is_other))]
 fn is_other(table: &[u16], m: u8, w: usize) -> bool
     requires { w ≤ length (trace table.now) }
     ensures { result ≡ is_other (trace table.now) m w }
 {
-    if w == 0 {
-        return false;
-    }
-    !is_own(table, m, w)
+    w != 0 && !is_own(table, m, w)
 }
 
 // Where event e of p observed a write of q, that write needs the last write of p before e.
+#[tactic(auto, using(crate::proofs::FirstLaws::waits_few, table::proofs::LinkFacts::reads_observed), unfolding(crate::specs::Steps::with_over))]
 fn read_over(table: &[u16], m: u8, e: usize, last: &[u16; Event::OBJECTS], need: &mut [u16])
     requires { Linked table.now × (Valid (trace table.now) e × (length (trace table.now) < length need.old)) }
     ensures { need.new ≡ with_over (trace table.now) m e last.now need.old }
@@ -199,16 +186,15 @@ fn add_over(table: &[u16], m: u8, p: &[u16], q: &[u16], need: &mut [u16])
     ensures { Needed table.now m p.now q.now (FirstTwo (trace table.now) p.now) need.new }
 {
     let mut last = [0u16; Event::OBJECTS];
-    let mut i = 0;
-    while i < p.len() {
-        let e = table::wide(p[i]);
+    for event in p {
+        let e = table::wide(*event);
         read_over(table, m, e, &last, need);
         note_write(table, e, &mut last);
-        i += 1;
     }
 }
 
 // A section that event v of p begins ends at `ends[v]`: that is the last end on its lock so far.
+#[tactic(auto, unfolding(crate::specs::Steps::with_section))]
 fn note_section(table: &[u16], v: usize, ends: &[u16], last: &mut [u16; Event::OBJECTS])
     requires { Linked table.now × (Valid (trace table.now) v × (length (trace table.now) < length ends.now)) }
     ensures { last.new ≡ with_section (trace table.now) v ends.now last.old }
@@ -233,33 +219,27 @@ fn note_sections(
     requires last_value { last.old ≡ replicate (max_object + 1) 0 }
     ensures { Sections (trace table.now) p.now last.new }
 {
-    let mut i = 0;
-    while i < p.len() {
-        note_section(table, table::wide(p[i]), ends, last);
-        i += 1;
+    for v in p {
+        note_section(table, table::wide(*v), ends, last);
     }
 }
 
 // Does event k begin a section that does not end up to the tops?
+#[tactic(auto, using(crate::proofs::OpenLaws::inner, crate::proofs::OpenLaws::outermost, crate::proofs::OpenLaws::no_section, table::proofs::LinkFacts::acquires_release), unfolding(crate::specs::Steps::is_open_in))]
 fn unended(table: &[u16], tops: &[u16; Thread::COUNT], k: usize) -> bool
     requires { Linked table.now × Valid (trace table.now) k }
     ensures { result ≡ is_open_in (trace table.now) tops.now k }
 {
-    if table::kind_at(table, k) != Event::ACQUIRE {
-        return false;
-    }
-    if table::began_at(table, k) != k {
+    if table::kind_at(table, k) != Event::ACQUIRE || table::began_at(table, k) != k {
         return false;
     }
     let r = table::released_at(table, k);
-    if r == 0 {
-        return true;
-    }
     let c = table::thread_place(table, k);
-    table::wide(tops[c]) < r
+    r == 0 || table::wide(tops[c]) < r
 }
 
 // Where event k of q begins such a section, it needs the last end of p's sections on its lock.
+#[tactic(auto, unfolding(crate::specs::Steps::with_open))]
 fn add_open(
     table: &[u16],
     tops: &[u16; Thread::COUNT],
@@ -290,10 +270,8 @@ fn add_opens(
     requires needed { Needed table.now m p.now q.now (FirstTwo (trace table.now) p.now) need.old }
     ensures { Needed table.now m p.now q.now (Bound (trace table.now) p.now q.now) need.new }
 {
-    let mut j = 0;
-    while j < q.len() {
-        add_open(table, tops, table::wide(q[j]), last, need);
-        j += 1;
+    for k in q {
+        add_open(table, tops, table::wide(*k), last, need);
     }
 }
 

@@ -2,8 +2,8 @@ use Rattle.std.proofs.Common.{rules}
 use Rattle.bounds.proofs.FirstLaws.{firsts_start, firsts_reading, firsts_valid, firsts_room, firsts_more, firsts_end}
 use Rattle.bounds.proofs.add_first.Goals as goal
 
-pub loop-j-init : goal.loop-j-init
-loop-j-init c = search (firsts_start, rules)
+pub loop-event-init : goal.loop-event-init
+loop-event-init c = search (firsts_start, rules)
 
 pub note_reads-i-requires : goal.note_reads-i-requires
 note_reads-i-requires c = search (firsts_reading, rules)
@@ -17,8 +17,8 @@ offset_bounds-need-k c = search (firsts_room, rules)
 pub bounds-need-k : goal.bounds-need-k
 bounds-need-k c = search (firsts_room, rules)
 
-pub loop-j-preserved : goal.loop-j-preserved
-loop-j-preserved c = search (firsts_more, rules)
+pub loop-event-preserved : goal.loop-event-preserved
+loop-event-preserved c = search (firsts_more, rules)
 
 pub returns : goal.returns
 returns c = search (firsts_end, rules)
