@@ -1,4 +1,4 @@
--- The ways through `is_third` and `beyond`, and what it says of a pair's cone.
+-- What `beyond` finds, and what it says of a pair's cone.
 use Prim.Native.Nat.{ℕ, ◌+◌, ◌<◌}
 use native.Mathlib.Omega.{arith}
 use mathlib.Core.Path.{◌≡◌, sym, ◌∙◌, ap}

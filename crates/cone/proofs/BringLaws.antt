@@ -8,12 +8,14 @@ use mathlib.Core.List.{List}
 use lib.ListN.{get_or}
 use lib.Dec.{eqb}
 use borrow.Author.Tests.{eqb-true, eqb-false}
+use Rattle.std.specs.Prelude.{Result, Ok}
 use Rattle.model.specs.Trace.{Trace, thread_of}
 use Rattle.model.specs.Cone.{Outside, brought, observes, closes}
 use Rattle.model.proofs.Tests.{by_cases, clash}
 use Rattle.table.specs.Links.{waits_for, release_of, fork_of}
 use Rattle.table.specs.Table.{trace, Linked}
 use Rattle.table.proofs.LinkFacts.{waits_less, waits_cases, fork_awaited, release_acquires, release-after}
+use Rattle.cone.specs.declared.RootInside.{RootInside}
 use Rattle.cone.specs.Following.{no_root, has_root, Bars, Within, Coming, Grown, Answer, going, Raised, Forked, Brought, BringsIn}
 use Rattle.cone.proofs.BarLaws.{no_root_lem}
 use Rattle.cone.proofs.RaiseLaws.{goes, answers, within_before, grown_more}
@@ -60,20 +62,20 @@ module _ {s : List ℕ} (links : Linked s) {bars : List ℕ} where
     bring_forked o e = record { within = λ q. rw e (within_before w (inr (fork_awaited t k (rw e at q)))) }
 
     module _ {x : Bool} (ex : x ≡ has_root bars (thread_of (trace s) k)) where
-      module _ {o : ℕ} (eo : o ≡ waits_for (trace s) k) {tops tops' : List ℕ} {b : Bool} (a : Answer (trace s) bars (Raised (trace s) bars o tops tops') b) (eb : b ≡ false) where
+      module _ {o : ℕ} (eo : o ≡ waits_for (trace s) k) {tops tops' : List ℕ} (a : Answer (trace s) bars (Raised (trace s) bars o tops tops') (Ok tt)) where
         -- by a root's thread
-        pub bring_exempt : x ≡ true → Answer (trace s) bars (BringsIn (trace s) bars k tops tops') false
+        pub bring_exempt : x ≡ true → Answer (trace s) bars (BringsIn (trace s) bars k tops tops') (Ok tt)
         bring_exempt e =
-            let f = goes a eb in
+            let f = goes a in
             going (record {
               sound = f.sound;
               grown = f.grown;
               brought = record { seen = rw (← eo) f.covers; closing = λ q. clash (sym ex ∙ e) q };
             })
 
-        pub bring_both : {r : ℕ} → r ≡ release_of (trace s) k → {tops'' : List ℕ} {y : Bool} → Answer (trace s) bars (Raised (trace s) bars r tops' tops'') y → Answer (trace s) bars (BringsIn (trace s) bars k tops tops'') y
+        pub bring_both : {r : ℕ} → r ≡ release_of (trace s) k → {tops'' : List ℕ} {y : Result (Unit {0}) RootInside} → Answer (trace s) bars (Raised (trace s) bars r tops' tops'') y → Answer (trace s) bars (BringsIn (trace s) bars k tops tops'') y
         bring_both {r} er {tops''} d =
-            let f = goes a eb in
+            let f = goes a in
             answers (λ (h : Raised t bars r tops' tops''). record {
               sound = h.sound;
               grown = grown_more f.grown h.grown;

@@ -3,18 +3,20 @@ use Prim.Native.Nat.{ℕ, ◌≤◌, ◌<◌}
 use native.Mathlib.Omega.{arith}
 use mathlib.Core.Path.{◌≡◌, refl, sym, ◌∙◌, ap}
 use mathlib.Core.Logic.{◌≢◌}
-use mathlib.Core.Bool.{Bool, false}
+use mathlib.Core.Bool.{Bool}
 use mathlib.Core.List.{List}
 use lib.ListN.{length, get_or, set, length-set}
 use lib.Seq.{get_or-set_same, get_or-set_other}
 use lib.Dec.{eqb, leb}
 use borrow.Author.Tests.{eqb-true, eqb-false, leb-true, leb-false}
+use Rattle.std.specs.Prelude.{Result, Ok}
 use Rattle.model.specs.Trace.{Trace, Valid, thread_of}
 use Rattle.model.specs.Good.{max_thread}
 use Rattle.model.proofs.Tests.{by_cases}
 use Rattle.table.specs.Links.{previous, fork_of}
 use Rattle.table.specs.Table.{trace}
 use Rattle.table.proofs.LinkFacts.{previous_less, previous_earlier, previous_last, fork-same}
+use Rattle.cone.specs.declared.RootInside.{RootInside}
 use Rattle.cone.specs.Following.{has_root, Within, Coming, Raising, Answer, going, Raised, BringsIn, Follows, Going, Caught}
 use Rattle.cone.proofs.RaiseLaws.{goes, answers, within_earlier, grown_none, grown_more, grown_set}
 use Rattle.cone.proofs.BringLaws.{brought_kept, forked_kept, bring_forked}
@@ -42,7 +44,7 @@ module _ {s bars tops : List ℕ} (g : Raising s bars tops) where
     pub follow_raising : Raising s bars tops'
     follow_raising = record { links = g.links; barred = g.barred; sound = b.follows.sound }
 
-    pub follow_end : (m : ℕ) → k ≤ m → Answer (trace s) bars (Follows (trace s) bars n m tops tops') false
+    pub follow_end : (m : ℕ) → k ≤ m → Answer (trace s) bars (Follows (trace s) bars n m tops tops') (Ok tt)
     follow_end m h = going (record { sound = b.follows.sound; grown = b.follows.grown; followed = λ j v e l u. b.follows.followed j v e (omega arith) u })
 
     module _ (m : ℕ) (h : m < k) where
@@ -59,9 +61,9 @@ module _ {s bars tops : List ℕ} (g : Raising s bars tops) where
         pub follow_less : p < k
         follow_less = let z = previous_less t k (omega arith) in omega arith
 
-        pub follow_more : {tops'' : List ℕ} {x : Bool} → Answer (trace s) bars (BringsIn (trace s) bars k tops' tops'') x → x ≡ false → Back (trace s) bars n p tops tops''
-        follow_more a ea =
-            let f = goes a ea in
+        pub follow_more : {tops'' : List ℕ} → Answer (trace s) bars (BringsIn (trace s) bars k tops' tops'') (Ok tt) → Back (trace s) bars n p tops tops''
+        follow_more a =
+            let f = goes a in
             record {
               follows = record {
                 sound = f.sound;
@@ -84,7 +86,7 @@ module _ {s bars tops : List ℕ} (g : Raising s bars tops) where
 -- ---- `catch_up`
 
 module _ {s bars done tops : List ℕ} (g : Going s bars done tops) (c : ℕ) where
-  pub caught_not : (n m : ℕ) → n ≡ get_or tops c 0 → m ≡ get_or done c 0 → n ≤ m → Answer (trace s) bars (Caught (trace s) bars c done done tops tops) false
+  pub caught_not : (n m : ℕ) → n ≡ get_or tops c 0 → m ≡ get_or done c 0 → n ≤ m → Answer (trace s) bars (Caught (trace s) bars c done done tops tops) (Ok tt)
   caught_not n m en em h = going (record { still = g.following; grown = grown_none tops; further = grown_none done; reaches = omega arith })
 
   pub caught_raising : Raising s bars tops
@@ -99,15 +101,15 @@ module _ {s bars done tops : List ℕ} (g : Going s bars done tops) (c : ℕ) wh
   pub caught_forked : (n m : ℕ) → n ≡ get_or tops c 0 → m < n → (o : ℕ) → o ≡ fork_of (trace s) n → Coming (trace s) bars o
   caught_forked n m e h o eo = bring_forked g.links (caught_within n m e h) o eo
 
-  pub caught : (n m : ℕ) → n ≡ get_or tops c 0 → m ≡ get_or done c 0 → m < n → c ≤ max_thread → {o : ℕ} → o ≡ fork_of (trace s) n → {tops₁ : List ℕ} {b : Bool}
-      → Answer (trace s) bars (Raised (trace s) bars o tops tops₁) b → b ≡ false → {tops' : List ℕ} {x : Bool}
+  pub caught : (n m : ℕ) → n ≡ get_or tops c 0 → m ≡ get_or done c 0 → m < n → c ≤ max_thread → {o : ℕ} → o ≡ fork_of (trace s) n → {tops₁ : List ℕ}
+      → Answer (trace s) bars (Raised (trace s) bars o tops tops₁) (Ok tt) → {tops' : List ℕ} {x : Result (Unit {0}) RootInside}
       → Answer (trace s) bars (Follows (trace s) bars n m tops₁ tops') x → Answer (trace s) bars (Caught (trace s) bars c done (set done c (get_or tops c 0)) tops tops') x
-  caught n m en em h l {o} eo {tops₁} r er a =
+  caught n m en em h l {o} eo {tops₁} r a =
       let t = trace s in
       let size = g.following.long in
       let inside : c < length done = omega arith in
       let here = get_or-set_same done c (get_or tops c 0) 0 inside in
-      let k = goes r er in
+      let k = goes r in
       let vn = caught_valid n m en h in
       let tn : thread_of t n ≡ c = rw (← en) at (g.following.sound.thread c (omega arith)) in
       answers (λ (f : Follows t bars n m tops₁ _). record {

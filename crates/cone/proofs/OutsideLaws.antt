@@ -3,11 +3,12 @@ use Prim.Native.Nat.{ℕ, zero, suc, ◌+◌, ◌-◌, ◌≤◌, ◌<◌}
 use native.Mathlib.Omega.{arith}
 use mathlib.Core.Path.{◌≡◌, sym, ◌∙◌}
 use mathlib.Core.Logic.{◌≢◌, inl, inr}
-use mathlib.Core.Bool.{Bool, true, false, false≢true}
+use mathlib.Core.Bool.{Bool, true, false}
 use mathlib.Core.List.{List}
 use lib.ListN.{length, get_or, replicate, length-replicate, get_or-replicate, get_or-eq_default}
 use lib.Dec.{eqb, ltb}
 use borrow.Author.Tests.{eqb-true, eqb-false, ltb-true, ltb-false}
+use Rattle.std.specs.Prelude.{Result, Ok, is_ok}
 use Rattle.model.specs.Trace.{Trace, Valid, fork, thread_of, kind_of, object_of}
 use Rattle.model.specs.Lists.{◌∈◌}
 use Rattle.model.specs.Good.{max_thread}
@@ -19,6 +20,7 @@ use Rattle.model.proofs.ConeEvents.{cone_valid}
 use Rattle.table.specs.Links.{previous, waits_for, release_of}
 use Rattle.table.specs.Table.{trace}
 use Rattle.table.proofs.LinkFacts.{previous_earlier, previous_last, reads_observed, joined_last, joined_thread, fork-only, acquires_release}
+use Rattle.cone.specs.declared.RootInside.{RootInside}
 use Rattle.cone.specs.Tops.{Rooted, Told, none_in, one_in}
 use Rattle.cone.specs.Following.{no_root, Bars, Grown, Answer, reached, going, Forked, Brought, Following, Round, Behind, Seeded}
 use Rattle.cone.proofs.BarLaws.{root_no}
@@ -82,10 +84,10 @@ left_less n (suc m) c g l u h =
     let x = left_less n m c g (omega arith) u h in
     let y = g.up m in omega arith)
 
-module _ {t : Trace} {bars R done tops : List ℕ} (p : Seeded t bars R 0 done tops) {done' tops' : List ℕ} {x : Bool} (a : Answer t bars (Round t bars (max_thread + 1) done done' tops tops') x) (ea : x ≡ false) where
+module _ {t : Trace} {bars R done tops : List ℕ} (p : Seeded t bars R 0 done tops) {done' tops' : List ℕ} (a : Answer t bars (Round t bars (max_thread + 1) done done' tops tops') (Ok tt)) where
   pub outside_less : {b : Bool} → Behind done tops b → b ≡ true → left (length t) (max_thread + 1) done' < left (length t) (max_thread + 1) done
   outside_less d e =
-      let f = goes a ea in
+      let f = goes a in
       let z = behind_one d e in
       let c = z.0 in
       let l = z.1 in
@@ -96,7 +98,7 @@ module _ {t : Trace} {bars R done tops : List ℕ} (p : Seeded t bars R 0 done t
 
   pub outside_more : Seeded t bars R 0 done' tops'
   outside_more =
-      let f = goes a ea in
+      let f = goes a in
       record {
         still = f.still;
         covers = λ n l h. let y = p.covers n l h in let z = f.grown.up (thread_of t (previous t (get_or R n 0))) in omega arith;
@@ -105,9 +107,9 @@ module _ {t : Trace} {bars R done tops : List ℕ} (p : Seeded t bars R 0 done t
 
 -- ---- at the end
 
-pub told_in : {t : Trace} {R bars : List ℕ} → Bars t R bars → (tops : List ℕ) → {G : Type 0} {b : Bool} → Answer t bars G b → b ≡ true → Told t R tops false
-told_in {R = R} s tops (reached {c = c} l ne w) e = one_in (s.root c l ne) (w.inside R s)
-told_in s tops (going g) e = absurd (false≢true e)
+pub told : {t : Trace} {R bars : List ℕ} → Bars t R bars → {tops : List ℕ} {r : Result (Unit {0}) RootInside} → Answer t bars (Told t R tops true) r → (b : Bool) → b ≡ is_ok r → Told t R tops b
+told {R = R} s (reached {c = c} l ne w) b e = rw e (one_in (s.root c l ne) (w.inside R s))
+told s (going g) b e = rw e g
 
 module _ {s R bars done tops : List ℕ} (g : Rooted s R) (b : Bars (trace s) R bars) (p : Seeded (trace s) bars R 0 done tops) (level : (c : ℕ) → c ≤ max_thread → get_or tops c 0 ≤ get_or done c 0) where
   abbrev t : Trace
@@ -181,5 +183,5 @@ module _ {s R bars done tops : List ℕ} (g : Rooted s R) (b : Bars (trace s) R 
         topped = record { valid = λ c ne. (p.still.sound.within c ne).valid; thread = p.still.sound.thread };
       })
 
-pub told_out : {s R bars done tops : List ℕ} → Rooted s R → Bars (trace s) R bars → Seeded (trace s) bars R 0 done tops → {b : Bool} → Behind done tops b → b ≡ false → Told (trace s) R tops true
-told_out g b p d e = none_reached g b p (behind_none d e)
+pub told_out : {s R bars done tops : List ℕ} → Rooted s R → Bars (trace s) R bars → Seeded (trace s) bars R 0 done tops → {b : Bool} → Behind done tops b → b ≡ false → Answer (trace s) bars (Told (trace s) R tops true) (Ok tt)
+told_out g b p d e = going (none_reached g b p (behind_none d e))

@@ -3,7 +3,6 @@ use Prim.Native.Nat.{ℕ, ◌≤◌, ◌<◌}
 use native.Mathlib.Omega.{arith}
 use mathlib.Core.Path.{◌≡◌, sym, ◌∙◌}
 use mathlib.Core.Logic.{◌≢◌, inl}
-use mathlib.Core.Bool.{Bool, true, false, true≢false, false≢true}
 use mathlib.Core.List.{List}
 use lib.ListN.{length, get_or, set, length-set}
 use lib.Seq.{get_or-set_same, get_or-set_other}
@@ -11,26 +10,26 @@ use lib.Dec.{eqb}
 use mir.Syntax.{w16}
 use mir.Val.{Fits}
 use borrow.Author.Tests.{eqb-true, eqb-false}
+use Rattle.std.specs.Prelude.{Result, Ok, Err}
 use Rattle.model.specs.Trace.{Trace, Valid, thread_of}
 use Rattle.model.specs.Good.{max_thread}
 use Rattle.model.specs.Cone.{Earlier, Precedes, brought, precedes}
 use Rattle.model.proofs.Tests.{by_cases}
 use Rattle.model.proofs.ConeEvents.{precedes_valid}
 use Rattle.table.specs.Table.{trace}
+use Rattle.cone.specs.declared.RootInside.{RootInside}
 use Rattle.cone.specs.Following.{no_root, Within, Coming, Raising, Grown, Answer, reached, going, Raised}
 
 -- ---- the answers
 
 -- a root is in the cone, whatever else was asked for
-pub stops : {t : Trace} {bars : List ℕ} {G H : Type 0} {b : Bool} → Answer t bars G b → b ≡ true → Answer t bars H true
-stops (reached l ne w) e = reached l ne w
-stops (going g) e = absurd (false≢true e)
+pub stops : {t : Trace} {bars : List ℕ} {G H : Type 0} {e d : RootInside} → Answer t bars G (Err e) → Answer t bars H (Err d)
+stops (reached l ne w) = reached l ne w
 
-pub goes : {t : Trace} {bars : List ℕ} {G : Type 0} {b : Bool} → Answer t bars G b → b ≡ false → G
-goes (reached l ne w) e = absurd (true≢false e)
-goes (going g) e = g
+pub goes : {t : Trace} {bars : List ℕ} {G : Type 0} {u : Unit {0}} → Answer t bars G (Ok u) → G
+goes (going g) = g
 
-pub answers : {t : Trace} {bars : List ℕ} {G H : Type 0} {b : Bool} → (G → H) → Answer t bars G b → Answer t bars H b
+pub answers : {t : Trace} {bars : List ℕ} {G H : Type 0} {r : Result (Unit {0}) RootInside} → (G → H) → Answer t bars G r → Answer t bars H r
 answers f (reached l ne w) = reached l ne w
 answers f (going g) = going (f g)
 
@@ -72,7 +71,7 @@ module _ {s bars tops : List ℕ} (g : Raising s bars tops) {k : ℕ} (w : Comin
   t = trace s
 
   -- no event
-  pub raise_none : k < 1 → Answer (trace s) bars (Raised (trace s) bars k tops tops) false
+  pub raise_none : k < 1 → Answer (trace s) bars (Raised (trace s) bars k tops tops) (Ok tt)
   raise_none h = let z : k ≡ 0 = omega arith in going (record { sound = g.sound; grown = grown_none tops; covers = rw z (omega arith) })
 
   module _ (h : 1 ≤ k) where
@@ -84,11 +83,11 @@ module _ {s bars tops : List ℕ} (g : Raising s bars tops) {k : ℕ} (w : Comin
 
     module _ (c : ℕ) (ec : c ≡ thread_of t k) (lc : c ≤ max_thread) where
       -- already up to the top
-      pub raise_under : (x : ℕ) → x ≡ get_or tops c 0 → k ≤ x → Answer (trace s) bars (Raised (trace s) bars k tops tops) false
+      pub raise_under : (x : ℕ) → x ≡ get_or tops c 0 → k ≤ x → Answer (trace s) bars (Raised (trace s) bars k tops tops) (Ok tt)
       raise_under x ex le = going (record { sound = g.sound; grown = grown_none tops; covers = rw (← ec, ← ex) le })
 
       -- the root of the thread is reached
-      pub raise_reached : (y : ℕ) → y ≡ get_or bars c 0 → y ≤ k → Answer (trace s) bars (Raised (trace s) bars k tops tops) true
+      pub raise_reached : (y : ℕ) → y ≡ get_or bars c 0 → y ≤ k → {e : RootInside} → Answer (trace s) bars (Raised (trace s) bars k tops tops) (Err e)
       raise_reached y ey le =
           let size = g.links.good.size in
           let v = here.valid.bounded in
@@ -96,7 +95,7 @@ module _ {s bars tops : List ℕ} (g : Raising s bars tops) {k : ℕ} (w : Comin
           let b = (g.barred.valid c lc ne).positive in
           reached lc ne (within_upto here (get_or bars c 0) b (omega arith) (g.barred.thread c lc ne ∙ ec))
 
-      pub raise_up : get_or tops c 0 < k → k < get_or bars c 0 → Answer (trace s) bars (Raised (trace s) bars k tops (set tops c k)) false
+      pub raise_up : get_or tops c 0 < k → k < get_or bars c 0 → Answer (trace s) bars (Raised (trace s) bars k tops (set tops c k)) (Ok tt)
       raise_up up low =
           let inside : c < length tops = let z = g.sound.long in omega arith in
           let top = get_or-set_same tops c k 0 inside in

@@ -8,6 +8,7 @@ use mathlib.Core.List.{List, [], ◌∷◌, reverse}
 use lib.ListN.{length, get_or, length-reverse}
 use lib.Dec.{eqb, ltb}
 use borrow.Author.Tests.{eqb-true, eqb-false, ltb-true, ltb-false}
+use Rattle.std.specs.Prelude.{Result, Ok}
 use Rattle.std.proofs.lemmas.List.{get_or-reverse}
 use Rattle.std.proofs.lemmas.Grind.{get_or_default_zero}
 use Rattle.std.specs.List.{list_any, zip}
@@ -22,6 +23,7 @@ use Rattle.model.proofs.Lists.{get_d_mem}
 use Rattle.table.specs.Links.{previous, fork_of}
 use Rattle.table.specs.Table.{trace, Linked}
 use Rattle.table.proofs.LinkFacts.{previous_earlier, fork_awaited}
+use Rattle.cone.specs.declared.RootInside.{RootInside}
 use Rattle.cone.specs.Following.{no_root, Bars, Within, Coming, Answer, going, Raised, Following, Going, Caught, Round, Behind, one_behind, none_behind, IsRoot, BeforeRoot, Started, Seeded}
 use Rattle.cone.proofs.RaiseLaws.{goes, answers, grown_none, grown_more}
 use Rattle.cone.proofs.BringLaws.{brought_kept, forked_kept}
@@ -76,9 +78,9 @@ module _ {s bars done tops : List ℕ} (g : Going s bars done tops) where
     pub round_going : Going s bars done' tops'
     round_going = record { links = g.links; barred = g.barred; following = p.still }
 
-    pub round_more : {done'' tops'' : List ℕ} {b : Bool} → Answer (trace s) bars (Caught (trace s) bars c done' done'' tops' tops'') b → b ≡ false → Round (trace s) bars (c + 1) done done'' tops tops''
-    round_more a e =
-        let f = goes a e in
+    pub round_more : {done'' tops'' : List ℕ} → Answer (trace s) bars (Caught (trace s) bars c done' done'' tops' tops'') (Ok tt) → Round (trace s) bars (c + 1) done done'' tops tops''
+    round_more a =
+        let f = goes a in
         record {
           still = f.still;
           grown = grown_more p.grown f.grown;
@@ -89,7 +91,7 @@ module _ {s bars done tops : List ℕ} (g : Going s bars done tops) where
               (λ q. let ne = eqb-false d c q in let x = p.reaches d (omega arith) in let y = f.further.up d in omega arith);
         }
 
-    pub round_end : max_thread + 1 ≤ c → Answer (trace s) bars (Round (trace s) bars (max_thread + 1) done done' tops tops') false
+    pub round_end : max_thread + 1 ≤ c → Answer (trace s) bars (Round (trace s) bars (max_thread + 1) done done' tops tops') (Ok tt)
     round_end h = going (record { still = p.still; grown = p.grown; further = p.further; reaches = λ d l. p.reaches d (omega arith) })
 
 -- ---- `start`
@@ -114,10 +116,10 @@ module _ {s : List ℕ} (links : Linked s) {bars : List ℕ} where
   start_forked p r e i = record { within = λ q. rw e (before_root (fork_of (trace s) r) r i (inr (fork_awaited (trace s) r (rw e at q)))) }
 
 module _ {t : Trace} {bars : List ℕ} where
-  pub before_both : {o p r : ℕ} → o ≡ fork_of t r → p ≡ previous t r → {tops tops₁ tops' : List ℕ} {y x : Bool}
-      → Answer t bars (Raised t bars o tops tops₁) y → y ≡ false → Answer t bars (Raised t bars p tops₁ tops') x → Answer t bars (BeforeRoot t bars r tops tops') x
-  before_both {o} {p} {r} eo ep {tops} {tops₁} {tops'} i ei a =
-      let g = goes i ei in
+  pub before_both : {o p r : ℕ} → o ≡ fork_of t r → p ≡ previous t r → {tops tops₁ tops' : List ℕ} {x : Result (Unit {0}) RootInside}
+      → Answer t bars (Raised t bars o tops tops₁) (Ok tt) → Answer t bars (Raised t bars p tops₁ tops') x → Answer t bars (BeforeRoot t bars r tops tops') x
+  before_both {o} {p} {r} eo ep {tops} {tops₁} {tops'} i a =
+      let g = goes i in
       answers (λ (f : Raised t bars p tops₁ tops'). record {
         sound = f.sound;
         grown = grown_more g.grown f.grown;
@@ -128,10 +130,10 @@ module _ {t : Trace} {bars : List ℕ} where
   pub following_kept : {r : ℕ} {done tops tops' : List ℕ} → Following t bars done tops → BeforeRoot t bars r tops tops' → Following t bars done tops'
   following_kept f r = record { long = f.long; sound = r.sound; followed = λ j v l. brought_kept r.grown (f.followed j v l); forked = λ j v l. forked_kept r.grown (f.forked j v l) }
 
-  pub started : {r : ℕ} {done done' tops tops' tops'' : List ℕ} {c : ℕ} {b x : Bool} → Answer t bars (BeforeRoot t bars r tops tops') b → b ≡ false
+  pub started : {r : ℕ} {done done' tops tops' tops'' : List ℕ} {c : ℕ} {x : Result (Unit {0}) RootInside} → Answer t bars (BeforeRoot t bars r tops tops') (Ok tt)
       → Answer t bars (Caught t bars c done done' tops' tops'') x → Answer t bars (Started t bars r done' tops tops'') x
-  started {r} {done} {done'} {tops} {tops'} {tops''} {c} a eb d =
-      let f = goes a eb in
+  started {r} {done} {done'} {tops} {tops'} {tops''} {c} a d =
+      let f = goes a in
       answers (λ (h : Caught t bars c done done' tops' tops''). record {
         still = h.still;
         grown = grown_more f.grown h.grown;
@@ -155,9 +157,9 @@ seed_turn R k x h =
     (l, h.1 ∙ get_or-reverse R k x l ∙ ap (λ (j : ℕ). get_or R j x) i ∙ get_or_default_zero R (length R - (k + 1)) x (omega arith))
 
 module _ {t : Trace} {bars R : List ℕ} {i : ℕ} {done tops : List ℕ} (p : Seeded t bars R i done tops) {j : ℕ} (u : i ≡ j + 1) where
-  pub seed_more : {r : ℕ} → r ≡ get_or R j 0 → {done' tops' : List ℕ} {x : Bool} → Answer t bars (Started t bars r done' tops tops') x → x ≡ false → Seeded t bars R j done' tops'
-  seed_more {r} e {tops' = tops'} a ea =
-      let f = goes a ea in
+  pub seed_more : {r : ℕ} → r ≡ get_or R j 0 → {done' tops' : List ℕ} → Answer t bars (Started t bars r done' tops tops') (Ok tt) → Seeded t bars R j done' tops'
+  seed_more {r} e {tops' = tops'} a =
+      let f = goes a in
       record {
         still = f.still;
         covers = λ n l h.
@@ -173,5 +175,5 @@ module _ {t : Trace} {bars R : List ℕ} {i : ℕ} {done tops : List ℕ} (p : S
             (λ q. let ne = eqb-false n j q in forked_kept f.grown (p.forked n (omega arith) h));
       }
 
-pub seed_end : {t : Trace} {bars R : List ℕ} {i : ℕ} {done tops : List ℕ} → Seeded t bars R i done tops → i ≤ 0 → Answer t bars (Seeded t bars R 0 done tops) false
+pub seed_end : {t : Trace} {bars R : List ℕ} {i : ℕ} {done tops : List ℕ} → Seeded t bars R i done tops → i ≤ 0 → Answer t bars (Seeded t bars R 0 done tops) (Ok tt)
 seed_end p h = going (record { still = p.still; covers = λ n l u. p.covers n (omega arith) u; forked = λ n l u. p.forked n (omega arith) u })

@@ -1,11 +1,12 @@
 -- The way to the tops: the event before each root, then each event up to a top brings in its own, until none is left.
-use Rattle.std.specs.Prelude.{ℕ, ◌≤◌, ◌<◌, ◌≡◌, ◌≢◌, Bool, true, false, not, List, length, get_or, eqb}
+use Rattle.std.specs.Prelude.{ℕ, ◌≤◌, ◌<◌, ◌≡◌, ◌≢◌, Bool, true, false, not, List, length, get_or, eqb, Result, Ok, Err}
 use Rattle.model.specs.Trace.{Trace, Valid, thread_of}
 use Rattle.model.specs.Lists.{◌∈◌}
 use Rattle.model.specs.Good.{max_thread}
 use Rattle.model.specs.Cone.{InCone}
 use Rattle.table.specs.Links.{previous, waits_for, release_of, fork_of}
 use Rattle.table.specs.Table.{trace, Linked}
+use Rattle.cone.specs.declared.RootInside.{RootInside}
 
 -- ---- the roots by thread
 
@@ -57,10 +58,10 @@ pub record Raising (s bars tops : List ℕ) : Type 0 where
 pub record Grown (l l' : List ℕ) : Type 0 where
   pub up : (c : ℕ) → get_or l c 0 ≤ get_or l' c 0
 
--- true: a root is found to be in the cone; false: not yet, and G
-pub data Answer (t : Trace) (bars : List ℕ) (G : Type 0) : Bool → Type 0 where
-  reached : {c : ℕ} → c ≤ max_thread → get_or bars c 0 ≢ no_root → Within t bars (get_or bars c 0) → Answer t bars G true
-  going : G → Answer t bars G false
+-- an error: a root is found to be in the cone; otherwise not yet, and G
+pub data Answer (t : Trace) (bars : List ℕ) (G : Type 0) : Result (Unit {0}) RootInside → Type 0 where
+  reached : {e : RootInside} {c : ℕ} → c ≤ max_thread → get_or bars c 0 ≢ no_root → Within t bars (get_or bars c 0) → Answer t bars G (Err e)
+  going : {u : Unit {0}} → G → Answer t bars G (Ok u)
 
 -- ---- the steps
 

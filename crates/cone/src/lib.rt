@@ -3,7 +3,7 @@
 // From a top the events of its thread are followed back, and each brings in its own: that raises tops. This stops as soon as a root is in the cone.
 #![tactic(auto)]
 
-ghost use Rattle.std.specs.Prelude.{◌≡◌, ◌+◌, ◌≤◌, ◌<◌, max, length, get_or, replicate};
+ghost use Rattle.std.specs.Prelude.{◌≡◌, ◌+◌, ◌≤◌, ◌<◌, length, get_or, replicate, true};
 ghost use Rattle.model.specs.Trace.{Valid, thread_of};
 ghost use Rattle.model.specs.Lists.{all_but};
 ghost use Rattle.model.specs.Good.{Good, max_thread};
@@ -26,115 +26,184 @@ fn place(list: &[u16; Thread::COUNT], c: usize) -> usize
     wide(list[c])
 }
 
-// Each root is the bar of its thread.
-fn set_bars(table: &[u16], roots: &[u16], bars: &mut [u16; Thread::COUNT])
-    requires { Rooted table.now roots.now × (bars.old ≡ replicate (max_thread + 1) no_root) }
-    ensures { Bars (trace table.now) roots.now bars.new }
+// The root of each thread; NO_ROOT where it has none.
+fn bars_of(table: &[u16], roots: &[u16]) -> [u16; Thread::COUNT]
+    requires { Rooted table.now roots.now }
+    ensures { Bars (trace table.now) roots.now result }
 {
+    let mut bars = [NO_ROOT; Thread::COUNT];
     for &r in roots {
         let c = table::thread_place(table, wide(r));
         bars[c] = r;
     }
+    bars
 }
 
-// Is event k by the thread of a root?
-fn has_root(table: &[u16], bars: &[u16; Thread::COUNT], k: usize) -> bool
-    requires { Good (trace table.now) × Valid (trace table.now) k }
-    ensures { result ≡ has_root bars.now (thread_of (trace table.now) k) }
-{
-    let c = table::thread_place(table, k);
-    bars[c] != NO_ROOT
+// A root is in the cone: the search ends.
+#[derive(Clone, Copy)]
+struct RootInside;
+
+// What a search for a cone goes by.
+#[derive(Clone, Copy)]
+struct Search<'a> {
+    table: &'a [u16],
+    // The root of each thread; NO_ROOT where it has none.
+    bars: [u16; Thread::COUNT],
 }
 
-// Event k, if it is one, is in the cone: the top of its thread is no lower. Is a root in the cone then?
-fn raise(
-    table: &[u16],
-    bars: &[u16; Thread::COUNT],
-    k: usize,
-    tops: &mut [u16; Thread::COUNT],
-) -> bool
-    requires { Raising table.now bars.now tops.old × Coming (trace table.now) bars.now k }
-    ensures { Answer (trace table.now) bars.now (Raised (trace table.now) bars.now k tops.old tops.new) result }
-{
-    if k < 1 {
-        return false;
+impl Search<'_> {
+    // Is event k by the thread of a root?
+    fn has_root(&self, k: usize) -> bool
+        requires { Good (trace self.now.table.now) × Valid (trace self.now.table.now) k }
+        ensures { result ≡ has_root self.now.bars (thread_of (trace self.now.table.now) k) }
+    {
+        let c = table::thread_place(self.table, k);
+        self.bars[c] != NO_ROOT
     }
-    let c = table::thread_place(table, k);
-    if k <= place(tops, c) {
-        return false;
-    }
-    if place(bars, c) <= k {
-        return true;
-    }
-    tops[c] = k as u16;
-    false
-}
 
-// What event k, which is in the cone, brings in: its observed write (rule iii), or the events of the thread that it joins, up to the last; and, unless its
-// thread is a root's (`exempt`), its matching release (iv); a last release is linked to itself. Is a root in the cone then?
-fn bring(
-    table: &[u16],
-    bars: &[u16; Thread::COUNT],
-    k: usize,
-    exempt: bool,
-    tops: &mut [u16; Thread::COUNT],
-) -> bool
-    requires { Raising table.now bars.now tops.old × (Within (trace table.now) bars.now k × (exempt ≡ has_root bars.now (thread_of (trace table.now) k))) }
-    ensures { Answer (trace table.now) bars.now (BringsIn (trace table.now) bars.now k tops.old tops.new) result }
-{
-    if raise(table, bars, table::waits_at(table, k), tops) {
-        return true;
-    }
-    if exempt {
-        return false;
-    }
-    raise(table, bars, table::released_at(table, k), tops)
-}
-
-// The events of a thread from event `from` back to event `to`, which is left out: each brings in its own (rule ii). Is a root in the cone then?
-fn follow(
-    table: &[u16],
-    bars: &[u16; Thread::COUNT],
-    from: usize,
-    to: usize,
-    tops: &mut [u16; Thread::COUNT],
-) -> bool
-    requires { Raising table.now bars.now tops.old × Within (trace table.now) bars.now from }
-    ensures { Answer (trace table.now) bars.now (Follows (trace table.now) bars.now from to tops.old tops.new) result }
-{
-    let exempt = has_root(table, bars, from);
-    let mut k = from;
-    // A `while`: each step goes by the link of the event before, so there is no range or list to go over.
-    while to < k {
-        if bring(table, bars, k, exempt, tops) {
-            return true;
+    // Event k, if it is one, is in the cone: the top of its thread is no lower.
+    fn raise(&self, k: usize, tops: &mut [u16; Thread::COUNT]) -> Result<(), RootInside>
+        requires { Raising self.now.table.now self.now.bars tops.old × Coming (trace self.now.table.now) self.now.bars k }
+        ensures { Answer (trace self.now.table.now) self.now.bars (Raised (trace self.now.table.now) self.now.bars k tops.old tops.new) result }
+    {
+        if k < 1 {
+            return Ok(());
         }
-        k = table::previous_at(table, k);
+        let c = table::thread_place(self.table, k);
+        if k <= place(tops, c) {
+            return Ok(());
+        }
+        if place(&self.bars, c) <= k {
+            return Err(RootInside);
+        }
+        tops[c] = k as u16;
+        Ok(())
     }
-    false
-}
 
-// Thread c is followed from its top back to where it was followed before, and its fork is in the cone. Is a root in the cone then?
-fn catch_up(
-    table: &[u16],
-    bars: &[u16; Thread::COUNT],
-    c: usize,
-    done: &mut [u16; Thread::COUNT],
-    tops: &mut [u16; Thread::COUNT],
-) -> bool
-    requires { Going table.now bars.now done.old tops.old × (c ≤ max_thread) }
-    ensures { Answer (trace table.now) bars.now (Caught (trace table.now) bars.now c done.old done.new tops.old tops.new) result }
-{
-    let from = place(tops, c);
-    let to = place(done, c);
-    if from <= to {
-        return false;
+    // What event k, which is in the cone, brings in: its observed write (rule iii), or the events of the thread that it joins, up to the last; and, unless its
+    // thread is a root's (`exempt`), its matching release (iv); a last release is linked to itself.
+    fn bring(
+        &self,
+        k: usize,
+        exempt: bool,
+        tops: &mut [u16; Thread::COUNT],
+    ) -> Result<(), RootInside>
+        requires { Raising self.now.table.now self.now.bars tops.old × (Within (trace self.now.table.now) self.now.bars k × (exempt ≡ has_root self.now.bars (thread_of (trace self.now.table.now) k))) }
+        ensures { Answer (trace self.now.table.now) self.now.bars (BringsIn (trace self.now.table.now) self.now.bars k tops.old tops.new) result }
+    {
+        self.raise(table::waits_at(self.table, k), tops)?;
+        if exempt {
+            return Ok(());
+        }
+        self.raise(table::released_at(self.table, k), tops)
     }
-    done[c] = tops[c];
-    if raise(table, bars, table::forked_at(table, from), tops) {
-        return true;
+
+    // The events of a thread from event `from` back to event `to`, which is left out: each brings in its own (rule ii).
+    fn follow(
+        &self,
+        from: usize,
+        to: usize,
+        tops: &mut [u16; Thread::COUNT],
+    ) -> Result<(), RootInside>
+        requires { Raising self.now.table.now self.now.bars tops.old × Within (trace self.now.table.now) self.now.bars from }
+        ensures { Answer (trace self.now.table.now) self.now.bars (Follows (trace self.now.table.now) self.now.bars from to tops.old tops.new) result }
+    {
+        let exempt = self.has_root(from);
+        let mut k = from;
+        // A `while`: each step goes by the link of the event before, so there is no range or list to go over.
+        while to < k {
+            self.bring(k, exempt, tops)?;
+            k = table::previous_at(self.table, k);
+        }
+        Ok(())
     }
-    follow(table, bars, from, to, tops)
+
+    // Thread c is followed from its top back to where it was followed before, and its fork is in the cone.
+    fn catch_up(
+        &self,
+        c: usize,
+        done: &mut [u16; Thread::COUNT],
+        tops: &mut [u16; Thread::COUNT],
+    ) -> Result<(), RootInside>
+        requires { Going self.now.table.now self.now.bars done.old tops.old × (c ≤ max_thread) }
+        ensures { Answer (trace self.now.table.now) self.now.bars (Caught (trace self.now.table.now) self.now.bars c done.old done.new tops.old tops.new) result }
+    {
+        let from = place(tops, c);
+        let to = place(done, c);
+        if from <= to {
+            return Ok(());
+        }
+        done[c] = tops[c];
+        self.raise(table::forked_at(self.table, from), tops)?;
+        self.follow(from, to, tops)
+    }
+
+    // Each thread is followed from its top.
+    fn round(
+        &self,
+        done: &mut [u16; Thread::COUNT],
+        tops: &mut [u16; Thread::COUNT],
+    ) -> Result<(), RootInside>
+        requires { Going self.now.table.now self.now.bars done.old tops.old }
+        ensures { Answer (trace self.now.table.now) self.now.bars (Round (trace self.now.table.now) self.now.bars (max_thread + 1) done.old done.new tops.old tops.new) result }
+    {
+        for c in 0..Thread::COUNT {
+            self.catch_up(c, done, tops)?;
+        }
+        Ok(())
+    }
+
+    // What must stand before root r is in the cone: the fork of its thread, and the event before it there (rule i).
+    fn before_root(&self, r: usize, tops: &mut [u16; Thread::COUNT]) -> Result<(), RootInside>
+        requires { Raising self.now.table.now self.now.bars tops.old × IsRoot (trace self.now.table.now) self.now.bars r }
+        ensures { Answer (trace self.now.table.now) self.now.bars (BeforeRoot (trace self.now.table.now) self.now.bars r tops.old tops.new) result }
+    {
+        self.raise(table::forked_at(self.table, r), tops)?;
+        self.raise(table::previous_at(self.table, r), tops)
+    }
+
+    // So it is, and the thread is followed from there.
+    fn start(
+        &self,
+        r: usize,
+        done: &mut [u16; Thread::COUNT],
+        tops: &mut [u16; Thread::COUNT],
+    ) -> Result<(), RootInside>
+        requires { Going self.now.table.now self.now.bars done.old tops.old × IsRoot (trace self.now.table.now) self.now.bars r }
+        ensures { Answer (trace self.now.table.now) self.now.bars (Started (trace self.now.table.now) self.now.bars r done.new tops.old tops.new) result }
+    {
+        self.before_root(r, tops)?;
+        self.catch_up(table::thread_place(self.table, r), done, tops)
+    }
+
+    // So from each root, the last one first: below the higher event of a pair the lower one is found soonest.
+    fn seed(
+        &self,
+        roots: &[u16],
+        done: &mut [u16; Thread::COUNT],
+        tops: &mut [u16; Thread::COUNT],
+    ) -> Result<(), RootInside>
+        requires { Going self.now.table.now self.now.bars done.old tops.old × Bars (trace self.now.table.now) roots.now self.now.bars }
+        ensures { Answer (trace self.now.table.now) self.now.bars (Seeded (trace self.now.table.now) self.now.bars roots.now 0 done.new tops.new) result }
+    {
+        for &r in roots.iter().rev() {
+            self.start(wide(r), done, tops)?;
+        }
+        Ok(())
+    }
+
+    // The whole cone: from the roots, and then in rounds, until no thread is followed less far than its top.
+    fn reach(&self, roots: &[u16], tops: &mut [u16; Thread::COUNT]) -> Result<(), RootInside>
+        requires { Rooted self.now.table.now roots.now × (Bars (trace self.now.table.now) roots.now self.now.bars × (tops.old ≡ replicate (max_thread + 1) 0)) }
+        ensures { Answer (trace self.now.table.now) self.now.bars (Told (trace self.now.table.now) roots.now tops.new true) result }
+    {
+        let mut done = [0u16; Thread::COUNT];
+        self.seed(roots, &mut done, tops)?;
+        while behind(&done, tops) {
+            self.round(&mut done, tops)?;
+        }
+        Ok(())
+    }
 }
 
 // Is a thread followed less far than its top?
@@ -144,93 +213,16 @@ fn behind(done: &[u16; Thread::COUNT], tops: &[u16; Thread::COUNT]) -> bool
     done.iter().zip(tops.iter()).any(|(d, top)| *d < *top)
 }
 
-// Each thread is followed from its top. Is a root in the cone then?
-fn round(
-    table: &[u16],
-    bars: &[u16; Thread::COUNT],
-    done: &mut [u16; Thread::COUNT],
-    tops: &mut [u16; Thread::COUNT],
-) -> bool
-    requires { Going table.now bars.now done.old tops.old }
-    ensures { Answer (trace table.now) bars.now (Round (trace table.now) bars.now (max_thread + 1) done.old done.new tops.old tops.new) result }
-{
-    for c in 0..Thread::COUNT {
-        if catch_up(table, bars, c, done, tops) {
-            return true;
-        }
-    }
-    false
-}
-
-// What must stand before root r is in the cone: the fork of its thread, and the event before it there (rule i). Is a root in the cone then?
-fn before_root(
-    table: &[u16],
-    bars: &[u16; Thread::COUNT],
-    r: usize,
-    tops: &mut [u16; Thread::COUNT],
-) -> bool
-    requires { Raising table.now bars.now tops.old × IsRoot (trace table.now) bars.now r }
-    ensures { Answer (trace table.now) bars.now (BeforeRoot (trace table.now) bars.now r tops.old tops.new) result }
-{
-    if raise(table, bars, table::forked_at(table, r), tops) {
-        return true;
-    }
-    raise(table, bars, table::previous_at(table, r), tops)
-}
-
-// So it is, and the thread is followed from there. Is a root in the cone then?
-fn start(
-    table: &[u16],
-    bars: &[u16; Thread::COUNT],
-    r: usize,
-    done: &mut [u16; Thread::COUNT],
-    tops: &mut [u16; Thread::COUNT],
-) -> bool
-    requires { Going table.now bars.now done.old tops.old × IsRoot (trace table.now) bars.now r }
-    ensures { Answer (trace table.now) bars.now (Started (trace table.now) bars.now r done.new tops.old tops.new) result }
-{
-    if before_root(table, bars, r, tops) {
-        return true;
-    }
-    catch_up(table, bars, table::thread_place(table, r), done, tops)
-}
-
-// So from each root, the last one first: below the higher event of a pair the lower one is found soonest. Is a root in the cone then?
-fn seed(
-    table: &[u16],
-    bars: &[u16; Thread::COUNT],
-    roots: &[u16],
-    done: &mut [u16; Thread::COUNT],
-    tops: &mut [u16; Thread::COUNT],
-) -> bool
-    requires { Going table.now bars.now done.old tops.old × Bars (trace table.now) roots.now bars.now }
-    ensures { Answer (trace table.now) bars.now (Seeded (trace table.now) bars.now roots.now 0 done.new tops.new) result }
-{
-    for &r in roots.iter().rev() {
-        if start(table, bars, wide(r), done, tops) {
-            return true;
-        }
-    }
-    false
-}
-
 // Is no root in the causal cone of the roots? Then the tops are how far it reaches into each thread; they are lent as 0.
 pub fn outside(table: &[u16], roots: &[u16], tops: &mut [u16; Thread::COUNT]) -> bool
     requires { Rooted table.now roots.now × (tops.old ≡ replicate (max_thread + 1) 0) }
     ensures { Told (trace table.now) roots.now tops.new result }
 {
-    let mut bars = [NO_ROOT; Thread::COUNT];
-    set_bars(table, roots, &mut bars);
-    let mut done = [0u16; Thread::COUNT];
-    if seed(table, &bars, roots, &mut done, tops) {
-        return false;
-    }
-    while behind(&done, tops) {
-        if round(table, &bars, &mut done, tops) {
-            return false;
-        }
-    }
-    true
+    let search = Search {
+        table,
+        bars: bars_of(table, roots),
+    };
+    search.reach(roots, tops).is_ok()
 }
 
 // Does it reach into any thread beside m and n?

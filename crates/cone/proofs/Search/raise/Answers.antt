@@ -1,7 +1,7 @@
 use Rattle.std.proofs.Common.{rules}
 use native.Mathlib.Omega.{arith}
 use Rattle.cone.proofs.RaiseLaws.{raise_none, raise_valid, raise_under, raise_reached, raise_fits, raise_up}
-use Rattle.cone.proofs.raise.Goals as goal
+use Rattle.cone.proofs.Search.raise.Goals as goal
 
 pub returns-then-k-lt1 : goal.returns-then-k-lt1
 returns-then-k-lt1 c = search (raise_none, rules)

@@ -1,6 +1,0 @@
-use Rattle.table.specs.Table.{trace}
-use Rattle.cone.specs.Following.{Round}
-use Rattle.cone.proofs.round.Given as goal
-
-abbrev pub invariant-loop-c : goal.invariant-loop-c
-invariant-loop-c l = Round (trace l.table) l.bars l.c l.initial.done l.done l.initial.tops l.tops
