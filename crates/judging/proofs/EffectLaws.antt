@@ -26,7 +26,8 @@ use Rattle.limits.specs.Refusals.{paper}
 use Rattle.limits.specs.declared.Refusal.{Refusal}
 use Rattle.limits.specs.declared.Refusal.TheVariants.{Kind, Thread, Object, SelfOrSecond, AlreadyBegun, AlreadyJoined, LockHeld, NotHolder}
 use Rattle.judging.specs.Walk.{Ready, InPlace, effect_of}
-use Rattle.judging.specs.declared.Effect.TheVariants.{Nothing, Hold, Refused}
+use Rattle.judging.specs.declared.Hold.{Hold}
+use Rattle.std.specs.Prelude.{Result, Ok, Err, Option as RustOption, Some, None}
 use Rattle.judging.proofs.JudgedExact.{event_exactly, good_clean}
 
 -- ---- a lock is held no deeper than events stand before, so that one level more fits
@@ -52,7 +53,7 @@ module _ (t : Trace) (k : ℕ) (e : Decoded) (is : plain e ≡ at t k) where
   pub object_is : e.object ≡ object_of t k
   object_is = ap (λ (x : Event). x.object) is
 
-stops : (t : Trace) (k : ℕ) (r : Refusal) → First (event_rows t k) (some (paper r)) → Refused r ≡ effect_of t k
+stops : (t : Trace) (k : ℕ) (r : Refusal) → First (event_rows t k) (some (paper r)) → Err r ≡ effect_of t k
 unfolding effect_of
 stops t k r f = rw ((event_exactly t k (some r)).1 f)
 
@@ -74,14 +75,14 @@ module _ (t : Trace) (k : ℕ) (e : Decoded) (is : plain e ≡ at t k) (a : Bool
   known_is : a ≡ is_known_kind (kind_of t k)
   known_is = ea ∙ ap is_known_kind (kind_is t k e is)
 
-  pub kind_unknown : not a ≡ true → Refused (Kind k) ≡ effect_of t k
+  pub kind_unknown : not a ≡ true → Err (Kind k) ≡ effect_of t k
   kind_unknown h = stops t k (Kind k) (inl (test_false (true_known t k) (sym known_is ∙ not-true a h), refl))
 
   module _ (ok : not a ≡ false) (b : Bool) (eb : b ≡ leb e.thread.number max_thread) where
     known : KnownKind (kind_of t k)
     known = known_true t k (sym known_is ∙ not-false a ok)
 
-    pub thread_over_limit : not b ≡ true → Refused (Thread k) ≡ effect_of t k
+    pub thread_over_limit : not b ≡ true → Err (Thread k) ≡ effect_of t k
     thread_over_limit h =
         let n = leb-false e.thread.number max_thread (sym eb ∙ not-true b h) in
         let d = thread_is t k e is in
@@ -94,7 +95,7 @@ module _ (t : Trace) (k : ℕ) (e : Decoded) (is : plain e ≡ at t k) (a : Bool
       limit_is : object_limit e.kind ≡ object_limit (kind_of t k)
       limit_is = ap object_limit (kind_is t k e is)
 
-      pub object_over_limit : not d ≡ true → Refused (Object k) ≡ effect_of t k
+      pub object_over_limit : not d ≡ true → Err (Object k) ≡ effect_of t k
       object_over_limit h =
           let n = leb-false e.object (object_limit e.kind) (sym ed ∙ not-true d h) in
           let x = object_is t k e is in
@@ -121,14 +122,14 @@ module _ (t : Trace) (k : ℕ) (a : Bool) where
   not-joined e h = test_false (joined_exactly t k).1 (sym e ∙ h)
 
 module _ (t : Trace) (k : ℕ) (limits : InLimits t k) (a : Bool) where
-  pub self_or_second : a ≡ (is_self t k || is_second t k) → a ≡ true → Refused (SelfOrSecond k) ≡ effect_of t k
+  pub self_or_second : a ≡ (is_self t k || is_second t k) → a ≡ true → Err (SelfOrSecond k) ≡ effect_of t k
   self_or_second e h = stops t k (SelfOrSecond k) (past_limits t k limits _ (inl ((self_exactly t k).0 (sym e ∙ h), refl)))
 
   module _ (one : ¬ Twice t k) where
-    pub already_begun : a ≡ (eqb (kind_of t k) fork && is_begun t (before k) (object_of t k)) → a ≡ true → Refused (AlreadyBegun k) ≡ effect_of t k
+    pub already_begun : a ≡ (eqb (kind_of t k) fork && is_begun t (before k) (object_of t k)) → a ≡ true → Err (AlreadyBegun k) ≡ effect_of t k
     already_begun e h = stops t k (AlreadyBegun k) (past_limits t k limits _ (inr (one, inl ((begun_exactly t k).0 (sym e ∙ h), refl))))
 
-    pub already_joined : ¬ Begun t k → a ≡ is_joined t (before k) (thread_of t k) → a ≡ true → Refused (AlreadyJoined k) ≡ effect_of t k
+    pub already_joined : ¬ Begun t k → a ≡ is_joined t (before k) (thread_of t k) → a ≡ true → Err (AlreadyJoined k) ≡ effect_of t k
     already_joined new e h = stops t k (AlreadyJoined k) (past_limits t k limits _ (inr (one, inr (new, inl ((joined_exactly t k).0 (sym e ∙ h), refl)))))
 
 -- ---- the lock
@@ -153,13 +154,17 @@ module _ (t : Trace) (k : ℕ) (h : List ℕ) where
         → (holder t (object_of t k) (k ∷ h) ≡ holder t (object_of t k) h) × (depth t (object_of t k) (k ∷ h) ≡ depth t (object_of t k) h - 1)
     after_inner d = rw (no-acquire, its_release, lt-leb (depth t (object_of t k) h) 1 d) (refl, refl)
 
+-- the event's lock has this holder at this depth then
+abbrev pub held_at : ℕ → ℕ → Result (RustOption Hold) Refusal
+held_at o d = Ok (Some (record { holder = o; depth = d }))
+
 -- a good acquire or release has the effect that the model says
 changes : (t : Trace) (k : ℕ) → GoodEvent t k → (kind_of t k ≡ acquire) ⊎ (kind_of t k ≡ release) → (o d : ℕ)
-    → (holder t (object_of t k) (k ∷ before k) ≡ o) × (depth t (object_of t k) (k ∷ before k) ≡ d) → Hold o d ≡ effect_of t k
+    → (holder t (object_of t k) (k ∷ before k) ≡ o) × (depth t (object_of t k) (k ∷ before k) ≡ d) → held_at o d ≡ effect_of t k
 unfolding effect_of
 changes t k g s o d w =
     rw (good_clean t k g, true-either (eqb (kind_of t k) acquire) (eqb (kind_of t k) release) (⊎_elim (λ a. inl (eq-eqb _ _ a)) (λ r. inr (eq-eqb _ _ r)) s))
-    (sym (ap₂ Hold w.0 w.1))
+    (sym (ap₂ held_at w.0 w.1))
 
 module _ {t : Trace} {k : ℕ} {holders depths : List ℕ} (p : Ready t k holders depths) (limits : InLimits t k) (place : InPlace t k) (e : Decoded) (is : plain e ≡ at t k) where
   pub own_fits : Fits w8 (e.thread.number + 1)
@@ -182,7 +187,7 @@ module _ {t : Trace} {k : ℕ} {holders depths : List ℕ} (p : Ready t k holder
     acquires : kind_of t k ≡ acquire
     acquires = sym (kind_is t k e is) ∙ y
 
-    acquired : Free t (before k) k → Hold (e.thread.number + 1) (get_or depths e.object 0 + 1) ≡ effect_of t k
+    acquired : Free t (before k) k → held_at (e.thread.number + 1) (get_or depths e.object 0 + 1) ≡ effect_of t k
     acquired f =
         let a = acquires in
         let x = thread_is t k e is in
@@ -190,13 +195,13 @@ module _ {t : Trace} {k : ℕ} {holders depths : List ℕ} (p : Ready t k holder
         let w = after-acquire t k (before k) a in
         changes t k (good_event limits place (λ z. f) (λ z. absurd (omega arith))) (inl a) _ _ (omega arith, omega arith)
 
-    pub takes : get_or holders e.object 0 ≡ 0 → Hold (e.thread.number + 1) (get_or depths e.object 0 + 1) ≡ effect_of t k
+    pub takes : get_or holders e.object 0 ≡ 0 → held_at (e.thread.number + 1) (get_or depths e.object 0 + 1) ≡ effect_of t k
     takes f = acquired (inl (sym held_by ∙ f))
 
-    pub deepens : get_or holders e.object 0 ≡ e.thread.number + 1 → Hold (e.thread.number + 1) (get_or depths e.object 0 + 1) ≡ effect_of t k
+    pub deepens : get_or holders e.object 0 ≡ e.thread.number + 1 → held_at (e.thread.number + 1) (get_or depths e.object 0 + 1) ≡ effect_of t k
     deepens f = let x = thread_is t k e is in let h = held_by in acquired (inr (omega arith))
 
-    pub was_held : (get_or holders e.object 0 ≡ 0 → ⊥) → (get_or holders e.object 0 ≡ e.thread.number + 1 → ⊥) → Refused (LockHeld k) ≡ effect_of t k
+    pub was_held : (get_or holders e.object 0 ≡ 0 → ⊥) → (get_or holders e.object 0 ≡ e.thread.number + 1 → ⊥) → Err (LockHeld k) ≡ effect_of t k
     was_held f g =
         let x = thread_is t k e is in
         let h = held_by in
@@ -206,7 +211,7 @@ module _ {t : Trace} {k : ℕ} {holders depths : List ℕ} (p : Ready t k holder
     releases : kind_of t k ≡ release
     releases = sym (kind_is t k e is) ∙ y
 
-    pub not_by_holder : (get_or holders e.object 0 ≡ e.thread.number + 1 → ⊥) → Refused (NotHolder k) ≡ effect_of t k
+    pub not_by_holder : (get_or holders e.object 0 ≡ e.thread.number + 1 → ⊥) → Err (NotHolder k) ≡ effect_of t k
     not_by_holder f =
         let x = thread_is t k e is in
         let h = held_by in
@@ -219,17 +224,17 @@ module _ {t : Trace} {k : ℕ} {holders depths : List ℕ} (p : Ready t k holder
       good : GoodEvent t k
       good = let r = releases in good_event limits place (λ z. absurd (omega arith)) (λ z. held)
 
-      pub frees : get_or depths e.object 0 ≤ 1 → Hold 0 0 ≡ effect_of t k
+      pub frees : get_or depths e.object 0 ≤ 1 → held_at 0 0 ≡ effect_of t k
       frees l = let d = how_deep in changes t k good (inr releases) 0 0 (after_last t k (before k) releases (omega arith))
 
-      pub undoes : 1 < get_or depths e.object 0 → Hold (e.thread.number + 1) (get_or depths e.object 0 - 1) ≡ effect_of t k
+      pub undoes : 1 < get_or depths e.object 0 → held_at (e.thread.number + 1) (get_or depths e.object 0 - 1) ≡ effect_of t k
       undoes l =
           let d = how_deep in
           let h = held_by in
           let w = after_inner t k (before k) releases (omega arith) in
           changes t k good (inr releases) _ _ (omega arith, omega arith)
 
-  pub passes : (e.kind ≡ acquire → ⊥) → (e.kind ≡ release → ⊥) → Nothing ≡ effect_of t k
+  pub passes : (e.kind ≡ acquire → ⊥) → (e.kind ≡ release → ⊥) → Ok None ≡ effect_of t k
   unfolding effect_of
   passes f g =
       let x = kind_is t k e is in

@@ -19,14 +19,11 @@ use Rattle.format.proofs.LayoutExact.{layout_none}
 use Rattle.format.proofs.PartLaws.{number_of_events, part-trace, read-good, read_refused}
 use Rattle.limits.specs.declared.Refusal.{Refusal}
 use Rattle.limits.specs.declared.Recording.{Recording}
-use Rattle.format.specs.declared.File.{File}
-use Rattle.format.specs.declared.File.TheVariants.{Refused as FileRefused, Good as FileGood}
+use Rattle.std.specs.Prelude.{Result, Ok, Err}
 use Rattle.judging.specs.Judged.{FileAnswer, file_refusal, refusal_of, rows_of_file, IsGoodFile}
 use Rattle.judging.specs.Walk.{effect_of}
 use Rattle.limits.specs.declared.Locks.{Locks}
 use Rattle.judging.specs.declared.Threads.{Threads}
-use Rattle.judging.specs.declared.Effect.{Effect}
-use Rattle.judging.specs.declared.Effect.TheVariants.{Refused}
 use Rattle.judging.proofs.JudgedExact.{file_first, quiet_good_file, file_exactly}
 use Rattle.judging.proofs.WalkLaws.{Judging, judging_stop, judging_end}
 
@@ -64,25 +61,24 @@ module _ (s : List ℕ) (t : Recording) (p : Placed s t) (ev : List ℕ) (part :
   clean : layout_refusal event_bytes s ≡ none
   clean = (layout_none s event_bytes).1 p.layout
 
-  module _ {n k : ℕ} {locks : Locks} {threads : Threads} (j : Judging (trace_in ev) n k locks threads) where
-    pub events_refused : k ≤ n → (u : Effect) → u ≡ effect_of (trace_in ev) k → (r : Refusal) → u ≡ Refused r
-        → FileRefused r ≡ file_of s (refusal_of s)
+  module _ {k : ℕ} {locks : Locks} {threads : Threads} (j : Judging (trace_in ev) k locks threads) where
+    pub events_refused : k ≤ length (trace_in ev) → (r : Refusal) → Err r ≡ effect_of (trace_in ev) k → Err r ≡ file_of s (refusal_of s)
     unfolding file_refusal
-    events_refused h u e r f = rw (clean, ← part-trace s ev part, judging_stop j h u e r f)
+    events_refused h r f = rw (clean, ← part-trace s ev part, judging_stop j h r f)
 
-    pub events-good : n < k → FileGood t ≡ file_of s (refusal_of s)
+    pub events-good : length (trace_in ev) < k → Ok t ≡ file_of s (refusal_of s)
     unfolding file_refusal
-    events-good h = rw (clean, ← part-trace s ev part, judging_end j h) (ap FileGood p.span)
+    events-good h = rw (clean, ← part-trace s ev part, judging_end j h) (ap Ok p.span)
 
 -- ---- judging a file
 
-module _ (s : List ℕ) (f : File) where
+module _ (s : List ℕ) (f : Result Recording Refusal) where
   module _ (is : f ≡ file_of s (layout_refusal event_bytes s)) where
-    pub layout_refused : (r : Refusal) → f ≡ FileRefused r → FileRefused r ≡ file_of s (refusal_of s)
+    pub layout_refused : (r : Refusal) → f ≡ Err r → Err r ≡ file_of s (refusal_of s)
     unfolding file_refusal
     layout_refused r e = rw (read_refused s (layout_refusal event_bytes s) r (sym is ∙ e))
 
-    pub layout_good : (t : Recording) → f ≡ FileGood t → Placed s t
+    pub layout_good : (t : Recording) → f ≡ Ok t → Placed s t
     layout_good t e =
         let g = read-good s (layout_refusal event_bytes s) t (sym is ∙ e) in
         record { layout = (layout_none s event_bytes).0 g.0; span = g.1 }
@@ -90,10 +86,10 @@ module _ (s : List ℕ) (f : File) where
   -- ---- what a good judgement says
 
   module _ (is : f ≡ file_of s (refusal_of s)) where
-    pub judged_refused : (r : Refusal) → f ≡ FileRefused r → refusal_of s ≡ some r
+    pub judged_refused : (r : Refusal) → f ≡ Err r → refusal_of s ≡ some r
     judged_refused r e = read_refused s (refusal_of s) r (sym is ∙ e)
 
-    module _ (t : Recording) (e : f ≡ FileGood t) where
+    module _ (t : Recording) (e : f ≡ Ok t) where
       pub judged_clean : refusal_of s ≡ none
       judged_clean = (read-good s (refusal_of s) t (sym is ∙ e)).0
 

@@ -1,8 +1,8 @@
--- The ways through `self_or_second`, `already_begun`, `already_joined` and `with_event`.
+-- The ways through `self_or_second`, `already_joined` and `with_event`.
 use Prim.Native.Nat.{ℕ, ◌≤◌, ◌<◌}
 use native.Mathlib.Omega.{arith}
 use mathlib.Core.Path.{◌≡◌, refl, sym, ◌∙◌, ap, ap₂}
-use mathlib.Core.Bool.{Bool, true, false, ◌&&◌, ◌||◌}
+use mathlib.Core.Bool.{Bool, true, false, ◌||◌}
 use mathlib.Core.List.{◌∷◌}
 use lib.Dec.{eqb}
 use mir.Val.{Fits}
@@ -47,12 +47,12 @@ module _ (t : Trace) (k : ℕ) (s : Threads) (sets : ThreadSets t (before k) s) 
     forks : kind_of t k ≡ fork
     forks = sym (kind_is t k e is) ∙ f
 
-    pub forks_self : e.object ≡ e.thread.number → true ≡ (is_self t k || is_second t k)
+    pub forks_self : e.object ≡ e.thread.number → eqb e.object e.thread.number ≡ (is_self t k || is_second t k)
     unfolding is_self
     forks_self o =
         let x = object_is t k e is in
         let y = thread_is t k e is in
-        rw (eq-eqb (kind_of t k) fork forks, eq-eqb (object_of t k) (thread_of t k) (omega arith))
+        rw (eq-eqb e.object e.thread.number o, eq-eqb (kind_of t k) fork forks, eq-eqb (object_of t k) (thread_of t k) (omega arith))
 
     pub forks-other : (e.object ≡ e.thread.number → ⊥) → (b : Bool) → b ≡ holds s.forked e.object → b ≡ (is_self t k || is_second t k)
     unfolding is_self is_second
@@ -71,19 +71,11 @@ module _ (t : Trace) (k : ℕ) (s : Threads) (sets : ThreadSets t (before k) s) 
       rw (n, eq-eqb (kind_of t k) join j, or-none (eqb (object_of t k) (thread_of t k)))
       (ap₂ eqb (object_is t k e is) (thread_is t k e is))
 
-  pub no-fork-or-join : (e.kind ≡ fork → ⊥) → (e.kind ≡ join → ⊥) → false ≡ (is_self t k || is_second t k)
+  pub no-fork-or-join : (e.kind ≡ fork → ⊥) → (e.kind ≡ join → ⊥) → eqb e.kind join ≡ (is_self t k || is_second t k)
   unfolding is_self is_second
   no-fork-or-join f j =
       let x = kind_is t k e is in
-      rw (ne_eqb (kind_of t k) fork (λ z. f (x ∙ z)), ne_eqb (kind_of t k) join (λ z. j (x ∙ z)))
-
-  -- ---- refusal 16
-
-  pub no-fork : (e.kind ≡ fork → ⊥) → false ≡ (eqb (kind_of t k) fork && is_begun t (before k) (object_of t k))
-  no-fork f = let x = kind_is t k e is in rw (ne_eqb (kind_of t k) fork (λ z. f (x ∙ z)))
-
-  pub forks_thread : e.kind ≡ fork → (b : Bool) → b ≡ holds s.begun e.object → b ≡ (eqb (kind_of t k) fork && is_begun t (before k) (object_of t k))
-  forks_thread f b eb = rw (eq-eqb (kind_of t k) fork (forks f)) (eb ∙ sets.begun_is e.object ∙ ap (is_begun t (before k)) (object_is t k e is))
+      rw (ne_eqb e.kind join j, ne_eqb (kind_of t k) fork (λ z. f (x ∙ z)), ne_eqb (kind_of t k) join (λ z. j (x ∙ z)))
 
   -- ---- one event more
 

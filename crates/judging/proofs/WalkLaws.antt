@@ -4,7 +4,7 @@ use native.Mathlib.Omega.{arith}
 use native.Mathlib.Numerals.{add-one}
 use mathlib.Core.Path.{◌≡◌, refl, sym, ◌∙◌}
 use mathlib.Core.Logic.{◌≢◌}
-use mathlib.Core.Bool.{true, false, cond, ◌||◌, Bool}
+use mathlib.Core.Bool.{◌||◌}
 use mathlib.Core.Option.{Option, none, some}
 use mathlib.Core.List.{List, [], ◌∷◌, reverse_aux}
 use lib.ListN.{length, get_or, set, length-set, get_or-replicate, length-replicate}
@@ -27,16 +27,15 @@ use Rattle.judging.specs.Walk.{LockTable, ThreadSets, Ready, locking, refused_or
 use Rattle.limits.specs.Limits.{no_locks}
 use Rattle.limits.specs.declared.Locks.{Locks}
 use Rattle.judging.specs.declared.Threads.{Threads}
-use Rattle.judging.specs.declared.Effect.{Effect}
-use Rattle.judging.specs.declared.Effect.TheVariants.{Nothing, Hold, Refused}
+use Rattle.judging.specs.declared.Hold.{Hold}
+use Rattle.std.specs.Prelude.{Ok, Err, Option as RustOption, Some, None}
 use Rattle.judging.proofs.JudgedExact.{clean_good}
 
 -- the events before k are good, and the tables and sets are theirs
-pub record Judging (t : Trace) (n k : ℕ) (locks : Locks) (threads : Threads) : Type 0 where
-  pub size : n ≡ length t
-  pub few : n ≤ max_events
+pub record Judging (t : Trace) (k : ℕ) (locks : Locks) (threads : Threads) : Type 0 where
+  pub few : length t ≤ max_events
   pub positive : 1 ≤ k
-  pub high : k ≤ n + 1
+  pub high : k ≤ length t + 1
   pub clean : (j : ℕ) → 1 ≤ j → j < k → event_refusal t j ≡ none
   pub tables : LockTable t (before k) locks.holder locks.depth
   pub sets : ThreadSets t (before k) threads
@@ -46,32 +45,26 @@ pub record Judging (t : Trace) (n k : ℕ) (locks : Locks) (threads : Threads) :
 -- ---- what an event does
 
 module _ (t : Trace) (k : ℕ) where
-  -- the effect, by the refusal of the event
-  stopped : (o : Option Refusal) (u : Effect) (r : Refusal) → refused_or o (locking t k) ≡ u → u ≡ Refused r → o ≡ some r
-  stopped none u r e f = absurd (never (eqb (kind_of t k) acquire || eqb (kind_of t k) release) _ _ (e ∙ f))
+  -- an event is refused with its refusal
+  stopped : (r : Refusal) → Err r ≡ effect_of t k → event_refusal t k ≡ some r
+  unfolding effect_of
+  stopped r e = go (event_refusal t k) refl e
     where
-      never : (b : Bool) (o d : ℕ) → cond b (Hold o d) Nothing ≡ Refused r → ⊥
-      never true o d e = let z : ◌≡◌ {A = ℕ} 0 1 = cc in omega arith
-      never false o d e = let z : ◌≡◌ {A = ℕ} 0 1 = cc in omega arith
-  stopped (some x) u r e f = cc
+      go : (o : Option Refusal) → event_refusal t k ≡ o → Err r ≡ refused_or o (locking t k) → event_refusal t k ≡ some r
+      go none q f = absurd cc
+      go (some x) q f = q ∙ cc
 
   -- an event that is not refused has its effect
-  unrefused : (v : Effect) → ((r : Refusal) → Refused r ≡ v → ⊥) → effect_of t k ≡ v → (event_refusal t k ≡ none) × (locking t k ≡ v)
+  unrefused : (u : RustOption Hold) → Ok u ≡ effect_of t k → (event_refusal t k ≡ none) × (u ≡ locking t k)
   unfolding effect_of
-  unrefused v other e = go (event_refusal t k) refl e
+  unrefused u e = go (event_refusal t k) refl e
     where
-      go : (o : Option Refusal) → event_refusal t k ≡ o → refused_or o (locking t k) ≡ v → (event_refusal t k ≡ none) × (locking t k ≡ v)
-      go none q f = (q, f)
-      go (some r) q f = absurd (other r f)
-
-  passed : effect_of t k ≡ Nothing → (event_refusal t k ≡ none) × (locking t k ≡ Nothing)
-  passed e = unrefused Nothing (λ r f. let z : ◌≡◌ {A = ℕ} 0 1 = cc in omega arith) e
-
-  held : (o d : ℕ) → effect_of t k ≡ Hold o d → (event_refusal t k ≡ none) × (locking t k ≡ Hold o d)
-  held o d e = unrefused (Hold o d) (λ r f. let z : ◌≡◌ {A = ℕ} 0 1 = cc in omega arith) e
+      go : (o : Option Refusal) → event_refusal t k ≡ o → Ok u ≡ refused_or o (locking t k) → (event_refusal t k ≡ none) × (u ≡ locking t k)
+      go none q f = (q, cc)
+      go (some r) q f = absurd cc
 
   -- no lock changes
-  after_pass : locking t k ≡ Nothing → (h : List ℕ) (x : ℕ) → (holder t x (k ∷ h) ≡ holder t x h) × (depth t x (k ∷ h) ≡ depth t x h)
+  after_pass : None ≡ locking t k → (h : List ℕ) (x : ℕ) → (holder t x (k ∷ h) ≡ holder t x h) × (depth t x (k ∷ h) ≡ depth t x h)
   after_pass e h x =
       by_cases (eqb (kind_of t k) acquire)
       (λ a. let f = rw a at e in let z : ◌≡◌ {A = ℕ} 0 1 = cc in absurd (omega arith))
@@ -81,8 +74,8 @@ module _ (t : Trace) (k : ℕ) where
       (λ b. rw (false-does t acquire x k (eqb-false _ _ a), false-does t release x k (eqb-false _ _ b)) (refl, refl)))
 
   -- the event's lock has the new holder and depth
-  after_hold : (o d : ℕ) → locking t k ≡ Hold o d → (holder t (object_of t k) (k ∷ before k) ≡ o) × (depth t (object_of t k) (k ∷ before k) ≡ d)
-  after_hold o d e =
+  after_hold : (v : Hold) → Some v ≡ locking t k → (holder t (object_of t k) (k ∷ before k) ≡ v.holder) × (depth t (object_of t k) (k ∷ before k) ≡ v.depth)
+  after_hold v e =
       by_cases (eqb (kind_of t k) acquire || eqb (kind_of t k) release)
       (λ a. let f = rw a at e in (cc, cc))
       (λ a. let f = rw a at e in let z : ◌≡◌ {A = ℕ} 0 1 = cc in absurd (omega arith))
@@ -120,13 +113,12 @@ module _ (t : Trace) where
 
 -- ---- the ways
 
-pub judging_start : (t : Trace) (n : ℕ) (locks : Locks) → n ≡ length t → length t ≤ max_events
-    → locks.holder ≡ no_locks → locks.depth ≡ no_locks → Judging t n 1 locks (record { begun = 0; forked = 0; joined = 0 })
+pub judging_start : (t : Trace) (locks : Locks) → length t ≤ max_events → locks.holder ≡ no_locks → locks.depth ≡ no_locks
+    → Judging t 1 locks (record { begun = 0; forked = 0; joined = 0 })
 unfolding no_locks is_begun is_forked is_joined
-judging_start t n locks size few e f =
+judging_start t locks few e f =
     record {
-      size = size;
-      few = omega arith;
+      few = few;
       positive = omega arith;
       high = omega arith;
       clean = λ j p q. absurd (omega arith);
@@ -139,22 +131,21 @@ judging_start t n locks size few e f =
       depth_wide = rw f (length-replicate {A = ℕ} (max_object + 1) 0);
     }
 
-module _ {t : Trace} {n k : ℕ} {locks : Locks} {threads : Threads} (p : Judging t n k locks threads) (h : k ≤ n) where
+module _ {t : Trace} {k : ℕ} {locks : Locks} {threads : Threads} (p : Judging t k locks threads) (h : k ≤ length t) where
   pub judging_valid : Valid t k
-  judging_valid = record { positive = p.positive; bounded = let s = p.size in omega arith }
+  judging_valid = record { positive = p.positive; bounded = h }
 
   pub judging_ready : Ready t k locks.holder locks.depth
-  judging_ready = record { valid = judging_valid; few = let s = p.size in let f = p.few in omega arith; locks = p.tables }
+  judging_ready = record { valid = judging_valid; few = p.few; locks = p.tables }
 
   more_clean : event_refusal t k ≡ none → (j : ℕ) → 1 ≤ j → j < k + 1 → event_refusal t j ≡ none
   more_clean e j a b = by_cases (eqb j k) (λ q. rw (eqb-true j k q) e) (λ q. let ne = eqb-false j k q in p.clean j a (omega arith))
 
   -- event k is good, and the new tables and sets are those after it
   next : event_refusal t k ≡ none → (l : Locks) → length l.holder ≡ max_object + 1 → length l.depth ≡ max_object + 1
-      → LockTable t (k ∷ before k) l.holder l.depth → (s : Threads) → ThreadSets t (k ∷ before k) s → Judging t n (k + 1) l s
+      → LockTable t (k ∷ before k) l.holder l.depth → (s : Threads) → ThreadSets t (k ∷ before k) s → Judging t (k + 1) l s
   next e l v w f s g =
       record {
-        size = p.size;
         few = p.few;
         positive = omega arith;
         high = omega arith;
@@ -165,55 +156,52 @@ module _ {t : Trace} {n k : ℕ} {locks : Locks} {threads : Threads} (p : Judgin
         depth_wide = w;
       }
 
-  module _ (u : Effect) (eu : u ≡ effect_of t k) where
-    pub judging_pass : u ≡ Nothing → (l : Locks) → l ≡ locks → (s : Threads) → ThreadSets t (k ∷ before k) s → Judging t n (k + 1) l s
+  module _ (u : RustOption Hold) (eu : Ok u ≡ effect_of t k) where
+    -- an event that is not refused is within its limits
+    pub effect_limits : InLimits t k
+    effect_limits = (clean_good t k (unrefused t k u eu).0).limits
+
+    pub judging_pass : u ≡ None → (l : Locks) → l ≡ locks → (s : Threads) → ThreadSets t (k ∷ before k) s → Judging t (k + 1) l s
     judging_pass f l el s g =
-        let w = passed t k (sym eu ∙ f) in
+        let w = unrefused t k u eu in
+        let c = after_pass t k (sym f ∙ w.1) (before k) in
         rw el
         (next w.0 locks p.holder_wide p.depth_wide (record {
-          holder_is = λ x b. p.tables.holder_is x b ∙ sym (after_pass t k w.1 (before k) x).0;
-          depth_is = λ x b. p.tables.depth_is x b ∙ sym (after_pass t k w.1 (before k) x).1;
+          holder_is = λ x b. p.tables.holder_is x b ∙ sym (c x).0;
+          depth_is = λ x b. p.tables.depth_is x b ∙ sym (c x).1;
         }) s g)
 
-    -- an event that is not refused is within its limits
-    pub pass_limits : u ≡ Nothing → InLimits t k
-    pass_limits f = (clean_good t k (passed t k (sym eu ∙ f)).0).limits
-
-    pub hold_limits : {v d : ℕ} → u ≡ Hold v d → InLimits t k
-    hold_limits {v} {d} f = (clean_good t k (held t k v d (sym eu ∙ f)).0).limits
-
-    module _ (v d : ℕ) (f : u ≡ Hold v d) (o : ℕ) (eo : o ≡ object_of t k) where
+    module _ (o : ℕ) (eo : o ≡ object_of t k) where
       pub judging_object : o < max_object + 1
-      judging_object = let b = (hold_limits f).object in let m = limit_small (kind_of t k) in omega arith
+      judging_object = let b = effect_limits.object in let m = limit_small (kind_of t k) in omega arith
 
       pub judging_offset : Fits w64 (o * 2)
       judging_offset = let b = judging_object in record { fits = omega arith }
 
-      pub judging_hold : (l : Locks) → l ≡ record { holder = set locks.holder o v; depth = set locks.depth o d } → (s : Threads) → ThreadSets t (k ∷ before k) s → Judging t n (k + 1) l s
-      judging_hold l el s g =
-          let w = held t k v d (sym eu ∙ f) in
+      pub judging_hold : (v : Hold) → u ≡ Some v → (l : Locks) → l ≡ record { holder = set locks.holder o v.holder; depth = set locks.depth o v.depth } → (s : Threads) → ThreadSets t (k ∷ before k) s → Judging t (k + 1) l s
+      judging_hold v f l el s g =
+          let w = unrefused t k u eu in
           let b = judging_object in
           let y = p.holder_wide in
           let z = p.depth_wide in
-          let c = after_hold t k v d w.1 in
+          let c = after_hold t k v (sym f ∙ w.1) in
           let x = object_of t k in
           rw (el, eo)
-          (next w.0 (record { holder = set locks.holder x v; depth = set locks.depth x d })
-          (length-set locks.holder x v ∙ y)
-          (length-set locks.depth x d ∙ z)
+          (next w.0 (record { holder = set locks.holder x v.holder; depth = set locks.depth x v.depth })
+          (length-set locks.holder x v.holder ∙ y)
+          (length-set locks.depth x v.depth ∙ z)
           (record {
             holder_is =
-                stored (λ j. holder t j (before k)) (λ j. holder t j (k ∷ before k)) locks.holder x v (omega arith)
+                stored (λ j. holder t j (before k)) (λ j. holder t j (k ∷ before k)) locks.holder x v.holder (omega arith)
                 p.tables.holder_is c.0 (λ j ne. (after-other t k (before k) j ne).0);
             depth_is =
-                stored (λ j. depth t j (before k)) (λ j. depth t j (k ∷ before k)) locks.depth x d (omega arith)
+                stored (λ j. depth t j (before k)) (λ j. depth t j (k ∷ before k)) locks.depth x v.depth (omega arith)
                 p.tables.depth_is c.1 (λ j ne. (after-other t k (before k) j ne).1);
           }) s g)
 
-    pub judging_stop : (r : Refusal) → u ≡ Refused r → refusal_in t (numbers t) ≡ some r
-    unfolding effect_of
-    judging_stop r f = refused_first t k judging_valid p.clean r (stopped t k (event_refusal t k) u r (sym eu) f)
+  pub judging_stop : (r : Refusal) → Err r ≡ effect_of t k → refusal_in t (numbers t) ≡ some r
+  judging_stop r f = refused_first t k judging_valid p.clean r (stopped t k r f)
 
-pub judging_end : {t : Trace} {n k : ℕ} {locks : Locks} {threads : Threads} → Judging t n k locks threads → n < k → refusal_in t (numbers t) ≡ none
+pub judging_end : {t : Trace} {k : ℕ} {locks : Locks} {threads : Threads} → Judging t k locks threads → length t < k → refusal_in t (numbers t) ≡ none
 unfolding refusal_in
-judging_end {t} p h = clean_skip t (length t) [] (λ j a b. let s = p.size in p.clean j a (omega arith))
+judging_end {t} p h = clean_skip t (length t) [] (λ j a b. p.clean j a (omega arith))

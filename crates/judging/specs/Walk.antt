@@ -1,5 +1,5 @@
 -- The walk over the events: the locks' holders and depths, what is known of the threads, and what each event does.
-use Rattle.std.specs.Prelude.{ℕ, ◌≤◌, ◌≡◌, cond, ◌||◌, List, ◌∷◌, get_or, length, eqb}
+use Rattle.std.specs.Prelude.{ℕ, ◌≤◌, ◌≡◌, cond, ◌||◌, List, ◌∷◌, get_or, length, eqb, Result, Ok, Err, Option as RustOption, Some, None}
 use Rattle.std.proofs.Math.Option.{Option, none, some}
 use Rattle.model.specs.Trace.{Trace, Valid, acquire, release, kind_of, object_of}
 use Rattle.model.specs.Lists.{before}
@@ -9,8 +9,7 @@ use Rattle.decision.specs.Refusals.{is_begun, is_forked, is_joined}
 use Rattle.judging.specs.Judged.{event_refusal}
 use Rattle.limits.specs.declared.Refusal.{Refusal}
 use Rattle.judging.specs.declared.Threads.{Threads}
-use Rattle.judging.specs.declared.Effect.{Effect}
-use Rattle.judging.specs.declared.Effect.TheVariants.{Nothing, Hold, Refused}
+use Rattle.judging.specs.declared.Hold.{Hold}
 
 -- two tables have who holds each lock after a history (0 for nobody, c + 1 for thread c), and how deep
 pub record LockTable (t : Trace) (h holders depths : List ℕ) : Type 0 where
@@ -35,18 +34,18 @@ pub record Ready (t : Trace) (k : ℕ) (holders depths : List ℕ) : Type 0 wher
   pub few : length t ≤ max_events
   pub locks : LockTable t (before k) holders depths
 
--- what an event does to its lock: after an acquire or a release it has the model's holder and depth
-abbrev pub locking : Trace → ℕ → Effect
+-- how an event leaves its lock: after an acquire or a release it has the model's holder and depth; no other event changes a lock
+abbrev pub locking : Trace → ℕ → RustOption Hold
 locking t k =
     cond (eqb (kind_of t k) acquire || eqb (kind_of t k) release)
-    (Hold (holder t (object_of t k) (k ∷ before k)) (depth t (object_of t k) (k ∷ before k)))
-    Nothing
+    (Some (record { holder = holder t (object_of t k) (k ∷ before k); depth = depth t (object_of t k) (k ∷ before k) }))
+    None
 
--- an event is refused, or has its effect
-abbrev pub refused_or : Option Refusal → Effect → Effect
-refused_or none u = u
-refused_or (some r) u = Refused r
+-- an event is refused, or leaves its lock so
+abbrev pub refused_or : Option Refusal → RustOption Hold → Result (RustOption Hold) Refusal
+refused_or none u = Ok u
+refused_or (some r) u = Err r
 
 -- what event k does after those before it
-unfoldable pub effect_of : Trace → ℕ → Effect
+unfoldable pub effect_of : Trace → ℕ → Result (RustOption Hold) Refusal
 effect_of t k = refused_or (event_refusal t k) (locking t k)

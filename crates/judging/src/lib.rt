@@ -11,7 +11,6 @@ ghost use Rattle.format.specs.Layout.{Placed, file_of};
 ghost use Rattle.judging.specs.Judged.{refusal_of};
 ghost use Rattle.judging.specs.Walk.{ThreadSets, Ready, InPlace, effect_of};
 
-use format::File;
 use limits::{Event, Locks, Recording, Refusal};
 
 // What the events so far say of the threads: which have an event, which are forked, which are joined. Each is a set as in `bits`.
@@ -22,12 +21,11 @@ pub struct Threads {
     pub joined: u16,
 }
 
-// What an event does: nothing to a lock, or its lock now has this holder at this depth, or it is refused.
+// How an event leaves its lock: who holds it (0 for nobody, c + 1 for thread c), and how deep.
 #[derive(Clone, Copy)]
-pub enum Effect {
-    Nothing,
-    Hold(u8, u16),
-    Refused(Refusal),
+pub struct Hold {
+    pub holder: u8,
+    pub depth: u16,
 }
 
 // Is event k a fork or join of its own thread, or a second fork of one thread?
@@ -36,19 +34,11 @@ fn self_or_second(ev: &[u8], k: usize, threads: Threads) -> bool
     ensures { result ≡ (is_self (trace_in ev.now) k || is_second (trace_in ev.now) k) }
 {
     let e = format::event_at(ev, k);
-    let thread = e.thread;
-    let own = thread.number as usize;
-    let object = e.object;
+    let own = e.thread.number as usize;
     if e.kind == Event::FORK {
-        if object == own {
-            return true;
-        }
-        return bits::contains(threads.forked, object);
+        return e.object == own || bits::contains(threads.forked, e.object);
     }
-    if e.kind == Event::JOIN {
-        return object == own;
-    }
-    false
+    e.kind == Event::JOIN && e.object == own
 }
 
 // Is event k a fork of a thread that has an event?
@@ -57,10 +47,7 @@ fn already_begun(ev: &[u8], k: usize, threads: Threads) -> bool
     ensures { result ≡ (eqb (kind_of (trace_in ev.now) k) fork && is_begun (trace_in ev.now) (before k) (object_of (trace_in ev.now) k)) }
 {
     let e = format::event_at(ev, k);
-    if e.kind != Event::FORK {
-        return false;
-    }
-    bits::contains(threads.begun, e.object)
+    e.kind == Event::FORK && bits::contains(threads.begun, e.object)
 }
 
 // Is event k of a joined thread?
@@ -108,7 +95,7 @@ fn lock_effect<'a>(
     k: usize,
     holder: &'a [u8; Event::OBJECTS],
     depth: &'a [u16; Event::OBJECTS],
-) -> Effect
+) -> Result<Option<Hold>, Refusal>
     requires { Ready (trace_in ev.now) k holder.now depth.now × InLimits (trace_in ev.now) k × InPlace (trace_in ev.now) k }
     ensures { result ≡ effect_of (trace_in ev.now) k }
 {
@@ -120,27 +107,32 @@ fn lock_effect<'a>(
     let held = holder[object];
     let deep = depth[object];
     if e.kind == Event::ACQUIRE {
-        let deeper = deep + 1;
-        if held == 0 {
-            return Effect::Hold(own, deeper);
-        }
         // its holder may acquire it again, one level deeper
-        if held == own {
-            return Effect::Hold(own, deeper);
+        if held == 0 || held == own {
+            return Ok(Some(Hold {
+                holder: own,
+                depth: deep + 1,
+            }));
         }
-        return Effect::Refused(Refusal::LockHeld(number));
+        return Err(Refusal::LockHeld(number));
     }
     if e.kind == Event::RELEASE {
         if held != own {
-            return Effect::Refused(Refusal::NotHolder(number));
+            return Err(Refusal::NotHolder(number));
         }
         // only the release of the last level frees it
         if deep <= 1 {
-            return Effect::Hold(0, 0);
+            return Ok(Some(Hold {
+                holder: 0,
+                depth: 0,
+            }));
         }
-        return Effect::Hold(own, deep - 1);
+        return Ok(Some(Hold {
+            holder: own,
+            depth: deep - 1,
+        }));
     }
-    Effect::Nothing
+    Ok(None)
 }
 
 // What event k, whose kind, thread and object are within their limits, does after those before it. Refusals 15 to 17, then 8 and 9.
@@ -150,20 +142,20 @@ fn thread_effect<'a>(
     threads: Threads,
     holder: &'a [u8; Event::OBJECTS],
     depth: &'a [u16; Event::OBJECTS],
-) -> Effect
+) -> Result<Option<Hold>, Refusal>
     requires ready { Ready (trace_in ev.now) k holder.now depth.now }
     requires thread_sets { ThreadSets (trace_in ev.now) (before k) threads × InLimits (trace_in ev.now) k }
     ensures { result ≡ effect_of (trace_in ev.now) k }
 {
     let number = k as u16;
     if self_or_second(ev, k, threads) {
-        return Effect::Refused(Refusal::SelfOrSecond(number));
+        return Err(Refusal::SelfOrSecond(number));
     }
     if already_begun(ev, k, threads) {
-        return Effect::Refused(Refusal::AlreadyBegun(number));
+        return Err(Refusal::AlreadyBegun(number));
     }
     if already_joined(ev, k, threads) {
-        return Effect::Refused(Refusal::AlreadyJoined(number));
+        return Err(Refusal::AlreadyJoined(number));
     }
     lock_effect(ev, k, holder, depth)
 }
@@ -175,7 +167,7 @@ fn effect_at<'a>(
     threads: Threads,
     holder: &'a [u8; Event::OBJECTS],
     depth: &'a [u16; Event::OBJECTS],
-) -> Effect
+) -> Result<Option<Hold>, Refusal>
     requires ready { Ready (trace_in ev.now) k holder.now depth.now }
     requires thread_sets { ThreadSets (trace_in ev.now) (before k) threads }
     ensures { result ≡ effect_of (trace_in ev.now) k }
@@ -183,57 +175,45 @@ fn effect_at<'a>(
     let e = format::event_at(ev, k);
     let number = k as u16;
     if !e.kind_known() {
-        return Effect::Refused(Refusal::Kind(number));
+        return Err(Refusal::Kind(number));
     }
     let thread = e.thread;
     if !thread.in_limit() {
-        return Effect::Refused(Refusal::Thread(number));
+        return Err(Refusal::Thread(number));
     }
     if !e.object_in_limit() {
-        return Effect::Refused(Refusal::Object(number));
+        return Err(Refusal::Object(number));
     }
     thread_effect(ev, k, threads, holder, depth)
 }
 
 // Refusals 5 to 7, 15 to 17, 8 and 9, event by event, of a file that has been read.
-fn judge_events(file: &[u8], t: Recording) -> File
+fn judge_events(file: &[u8], t: Recording) -> Result<Recording, Refusal>
     requires { Placed file.now t }
     ensures { result ≡ file_of file.now (refusal_of file.now) }
 {
     let ev = format::events(file, t);
-    let n = format::count(ev);
     let mut locks = Locks::empty();
     let mut threads = Threads {
         begun: 0,
         forked: 0,
         joined: 0,
     };
-    let mut k = 1;
-    while k <= n {
-        let effect = effect_at(ev, k, threads, &locks.holder, &locks.depth);
-        match effect {
-            Effect::Nothing => {}
-            Effect::Hold(h, d) => {
-                let object = format::object_at(ev, k);
-                locks.holder[object] = h;
-                locks.depth[object] = d;
-            }
-            Effect::Refused(r) => {
-                return File::Refused(r);
-            }
+    for k in 1..format::count(ev) + 1 {
+        let effect = effect_at(ev, k, threads, &locks.holder, &locks.depth)?;
+        if let Some(hold) = effect {
+            let object = format::object_at(ev, k);
+            locks.holder[object] = hold.holder;
+            locks.depth[object] = hold.depth;
         }
         threads = with_event(ev, k, threads);
-        k += 1;
     }
-    File::Good(t)
+    Ok(t)
 }
 
 // Refusals 1 to 4, 13, 5 to 7, 15 to 17, 8 and 9: what every question asks of a file first.
-pub fn judge(file: &[u8]) -> File
+pub fn judge(file: &[u8]) -> Result<Recording, Refusal>
     ensures { result ≡ file_of file.now (refusal_of file.now) }
 {
-    match format::read(file) {
-        File::Refused(r) => File::Refused(r),
-        File::Good(t) => judge_events(file, t),
-    }
+    judge_events(file, format::read(file)?)
 }

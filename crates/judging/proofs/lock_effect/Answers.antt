@@ -1,6 +1,7 @@
 use Rattle.std.proofs.Common.{rules}
 use Rattle.judging.proofs.EffectLaws.{own_fits, object_below, offset_fits, deeper_fits, takes, deepens, was_held, not_by_holder, frees, undoes, passes}
 use Rattle.judging.proofs.lock_effect.Goals as goal
+use Rattle.judging.proofs.lock_effect.Goals.{then-held-eq0-via-then-held-eq0, then-held-eq0-via-else-held-eq0+then-held-own}
 
 pub overflow_add-own : goal.overflow_add-own
 overflow_add-own c = search (own_fits, rules)
@@ -14,14 +15,12 @@ offset_bounds-depth-object c = search (offset_fits, rules)
 pub bounds-depth-object : goal.bounds-depth-object
 bounds-depth-object c = search (object_below, rules)
 
-pub overflow_add-deeper : goal.overflow_add-deeper
-overflow_add-deeper c = search (deeper_fits, object_below, rules)
+pub overflow_add-result : goal.overflow_add-result
+overflow_add-result c = search (deeper_fits, object_below, rules)
 
 pub returns-then-held-eq0 : goal.returns-then-held-eq0
-returns-then-held-eq0 c = search (takes, rules)
-
-pub returns-then-held-own : goal.returns-then-held-own
-returns-then-held-own c = search (deepens, rules)
+returns-then-held-eq0 c =
+    elim c.then-held-eq0.branch [ then-held-eq0-via-then-held-eq0 w ↦ search (takes, rules) | then-held-eq0-via-else-held-eq0+then-held-own w ↦ search (deepens, rules) ]
 
 pub returns-then-e-eq-ACQUIRE : goal.returns-then-e-eq-ACQUIRE
 returns-then-e-eq-ACQUIRE c = search (was_held, rules)
