@@ -6,8 +6,8 @@ use mathlib.Core.List.{List, map, ◌++◌}
 use lib.ListN.{length, get_or, drop, set, length-append, length-drop, length-set}
 use lib.Dec.{eqb, ltb}
 use lib.Seq.{ext_get_or, get_or-append-add, get_or-drop, get_or-set_same, get_or-set_other}
-use borrow.Author.Tests.{eqb-true, eqb-false, ne_eqb, ltb-true, ltb-false, eq-eqb, lt-leb, le-leb}
-use Rattle.model.specs.Trace.{Trace, read, kind_of, Valid}
+use borrow.Author.Tests.{eqb-true, eqb-false, ne_eqb, ltb-true, ltb-false, lt-leb, le-leb}
+use Rattle.model.specs.Trace.{Trace, read, kind_of}
 use Rattle.model.specs.Lists.{numbers, in_front}
 use Rattle.model.specs.Observed.{observed}
 use Rattle.model.specs.Good.{Good}
@@ -19,12 +19,8 @@ use Rattle.observing.specs.Entries.{not_aRead, answer_of, entry_at, entries, wit
 use Rattle.observing.specs.declared.Observed.{Observed}
 use Rattle.observing.specs.declared.Observed.TheVariants.{Write, Start, NotARead}
 use mathlib.Core.Option.{none}
-use mir.Syntax.{w16}
-use mir.Val.{Fits}
 use Rattle.limits.specs.declared.Refusal.TheVariants.{ListShort}
-use Rattle.table.specs.Links.{waits_for}
 use Rattle.std.specs.Prelude.{Ok, Err}
-use Rattle.observing.proofs.ObservingExact.{some-write}
 
 -- ---- entries and answers
 
@@ -147,61 +143,6 @@ module _ {t : Trace} (n : ℕ) (e : n ≡ length t) where
 
     pub entering_end : n + 1 ≤ k → l' ≡ with_entries t l
     entering_end h = let a = p.low in let z : k ≡ length t + 1 = omega arith in filled_one (rw z at p.filled) (entries-filled t l p.long)
-
--- ---- the ways through the answers on good events
-
--- ---- `answer_of`
-
-module _ (e : ℕ) where
-  pub says_no-read : e ≡ not_aRead → NotARead ≡ answer_of e
-  unfolding answer_of
-  says_no-read q = rw (eq-eqb e not_aRead q)
-
-  module _ (ne : e ≡ not_aRead → ⊥) where
-    pub says_start : e ≡ 0 → Start ≡ answer_of e
-    unfolding answer_of
-    says_start q = rw q
-
-    pub says_write : (e ≡ 0 → ⊥) → Write e ≡ answer_of e
-    unfolding answer_of
-    says_write q = rw (ne_eqb e not_aRead ne) (sym (some-write e q))
-
--- ---- `entry_at`
-
-module _ (t : Trace) (k : ℕ) where
-  no_entry : (kind_of t k ≡ read → ⊥) → not_aRead ≡ entry_at t k
-  unfolding entry_at
-  no_entry n = rw (ne_eqb (kind_of t k) read n)
-
-  pub below : k < 1 → not_aRead ≡ entry_at t k
-  below h = no_entry (λ e. let v = kind_valid t k (λ z. omega arith) in let p = v.positive in let y : ⊥ = omega arith in y)
-
-  module _ (n : ℕ) (l : n ≡ length t) where
-    pub above : n < k → not_aRead ≡ entry_at t k
-    above h = no_entry (λ e. let v = kind_valid t k (λ z. omega arith) in let p = v.bounded in let y : ⊥ = omega arith in y)
-
-    pub entry_valid : 1 ≤ k → k ≤ n → Valid t k
-    entry_valid p h = record { positive = p; bounded = omega arith }
-
-  module _ (d : ℕ) (ed : d ≡ kind_of t k) where
-    pub other_kind : (d ≡ read → ⊥) → not_aRead ≡ entry_at t k
-    other_kind n = no_entry (λ e. n (ed ∙ e))
-
-    module _ (e : d ≡ read) (w : ℕ) (ew : w ≡ waits_for t k) where
-      by_link : w ≡ observed t k
-      by_link = ew ∙ reads_observed t k (sym ed ∙ e)
-
-      pub entry_fits : Good t → Fits w16 w
-      entry_fits g = let b = by_link in let z = observed_small g k (sym ed ∙ e) in omega arith
-
-      pub entry_is : w ≡ entry_at t k
-      unfolding entry_at
-      entry_is = rw (eq-eqb (kind_of t k) read (sym ed ∙ e)) by_link
-
-  -- ---- `observed_in`
-
-  pub by_entry : Good t → (x : ℕ) → x ≡ entry_at t k → (r : Observed) → r ≡ answer_of x → r ≡ observed_in t k
-  by_entry g x e r q = q ∙ ap answer_of e ∙ entry_answers t g k
 
 -- ---- `observations_in`
 

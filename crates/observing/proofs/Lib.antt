@@ -1,5 +1,5 @@
 -- Each answer is given exactly in its case
 pub mod ObservingExact
 pub mod EntriesExact
--- The ways through the code
+-- Entries and the answers that they stand for; the pass that lists them
 pub mod EntriesLaws

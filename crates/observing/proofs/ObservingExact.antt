@@ -13,9 +13,9 @@ use Rattle.observing.specs.Observing.{IsRead, ObservedOf, sees_write, sees_start
 use Rattle.observing.specs.declared.Observed.{Observed}
 use Rattle.observing.specs.declared.Observed.TheVariants.{Write}
 
-pub some-write : (w : ℕ) → (w ≡ 0 → ⊥) → sees w ≡ Write w
-some-write zero ne = absurd (ne refl)
-some-write (suc w) ne = refl
+pub some_write : (w : ℕ) → (w ≡ 0 → ⊥) → sees w ≡ Write w
+some_write zero ne = absurd (ne refl)
+some_write (suc w) ne = refl
 
 module _ (t : Trace) (k : ℕ) where
   by_write : (w : ℕ) → observed t k ≡ w → IsRead t k → ObservedOf t k (sees w)
@@ -35,7 +35,7 @@ module _ (t : Trace) (k : ℕ) where
   unfolding observed_in
   shown o (sees_write {w} v l) =
       let p = l.positive in
-      rw (eq-eqb (kind_of t k) read v.kind, (observed-write_exactly t k w (λ z. omega arith)).1 l) (some-write w (λ z. omega arith))
+      rw (eq-eqb (kind_of t k) read v.kind, (observed-write_exactly t k w (λ z. omega arith)).1 l) (some_write w (λ z. omega arith))
   shown o (sees_start v l) = rw (eq-eqb (kind_of t k) read v.kind, (observed-start_exactly t k).1 l)
   shown o (no_read n) = rw (ne_eqb (kind_of t k) read (λ e. n (record { valid = kind_valid t k (λ z. omega arith); kind = e })))
 

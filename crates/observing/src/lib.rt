@@ -21,6 +21,7 @@ pub enum Observed {
 const NOT_A_READ: u16 = 65535;
 
 // The answer that an entry stands for.
+#[tactic(auto, using(crate::proofs::ObservingExact::some_write), unfolding(crate::specs::Entries::answer_of))]
 pub fn answer_of(entry: u16) -> Observed
     ensures { result ≡ answer_of entry }
 {
@@ -32,6 +33,7 @@ pub fn answer_of(entry: u16) -> Observed
 }
 
 // The entry of number k, whatever k is.
+#[tactic(auto, using(model::proofs::Tests::kind_valid, table::proofs::LinkFacts::reads_observed, crate::proofs::EntriesLaws::observed_small), unfolding(crate::specs::Entries::entry_at))]
 fn entry_at(table: &[u16], k: usize) -> u16
     requires { Linked table.now }
     ensures { result ≡ entry_at (trace table.now) k }
@@ -46,6 +48,7 @@ fn entry_at(table: &[u16], k: usize) -> u16
 }
 
 // The observed write of event k, whatever k is.
+#[tactic(auto, using(crate::proofs::EntriesLaws::entry_answers))]
 pub fn observed_in(table: &[u16], k: u16) -> Observed
     requires { Linked table.now }
     ensures { result ≡ observed_in (trace table.now) k }
