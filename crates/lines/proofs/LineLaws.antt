@@ -1,9 +1,9 @@
 -- The lines, put together from their pieces.
-use Prim.Native.Nat.{ℕ, ◌+◌, ◌*◌, ◌≤◌}
+use Prim.Native.Nat.{ℕ, ◌+◌, ◌≤◌}
 use native.Mathlib.Omega.{arith}
 use mathlib.Core.Path.{◌≡◌}
 use mathlib.Core.List.{List}
-use lib.ListN.{length, take}
+use lib.ListN.{length}
 use Rattle.limits.specs.Refusals.{number_of, event_of}
 use Rattle.limits.specs.declared.Refusal.{Refusal}
 use Rattle.std.specs.Prelude.{Option, Some, None}
@@ -28,9 +28,9 @@ module _ {at : ℕ} {out : List ℕ} where
       unfolding races_line
       races_put k a b c = appends_then a (appends_then b.appends c)
 
-      pub race_put : (a b n : ℕ) (list : List ℕ) → AppendsShort head_width (race_head a b) at out o₁ p → AppendsShort (event_width * n) (spaced_all (take n list)) p o₁ o₂ q → Appends line_end q o₂ out' r → Appends (race_line a b (take n list)) at out out' r
+      pub race_put : (a b most : ℕ) (ρ : List ℕ) → AppendsShort head_width (race_head a b) at out o₁ p → AppendsShort most (spaced_all ρ) p o₁ o₂ q → Appends line_end q o₂ out' r → Appends (race_line a b ρ) at out out' r
       unfolding race_line
-      race_put a b n list x y z = appends_then x.appends (appends_then y.appends z)
+      race_put a b most ρ x y z = appends_then x.appends (appends_then y.appends z)
 
       module _ {s : ℕ} {o₃ : List ℕ} where
         pub race_head_put : (a b : ℕ) → Appends race_word at out o₁ p → AppendsShort event_width (spaced a) p o₁ o₂ q → AppendsShort event_width (spaced b) q o₂ o₃ s → Appends witness_word s o₃ out' r → AppendsShort head_width (race_head a b) at out out' r

@@ -15,8 +15,7 @@ line_bytes = head_width + event_width * max_events + 1
 abbrev pub Room : ℕ → List ℕ → Type 0
 Room at out = at + line_bytes ≤ length out
 
--- room for the line of a race, whose witness is the first `n` numbers of a list
-pub record RaceRoom (at n : ℕ) (list out : List ℕ) : Type 0 where
+-- room for the line of a race with its witness
+pub record RaceRoom (at : ℕ) (witness out : List ℕ) : Type 0 where
   pub room : Room at out
-  pub few : n ≤ max_events
-  pub listed : n ≤ length list
+  pub few : length witness ≤ max_events

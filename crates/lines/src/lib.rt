@@ -2,7 +2,7 @@
 // gives how many are then.
 #![tactic(auto)]
 
-ghost use Rattle.std.specs.Prelude.{◌+◌, ◌*◌, ◌≤◌, length, take};
+ghost use Rattle.std.specs.Prelude.{◌+◌, ◌*◌, ◌≤◌, length};
 ghost use Rattle.appending.specs.Decimal.{event_width};
 ghost use Rattle.appending.specs.Appended.{Appends, AppendsShort};
 ghost use Rattle.lines.specs.Lines.{spaced_all, race_head, at_event, events_line, race_line, races_line, refused_line};
@@ -17,17 +17,14 @@ const HEAD_WIDTH: usize = 12 + 2 * EVENT_WIDTH;
 // The room in which every line fits: the longest is that of a race whose witness has a number for each event.
 pub const LINE_BYTES: usize = HEAD_WIDTH + EVENT_WIDTH * Recording::MAX_EVENTS + 1;
 
-// The first n numbers of a list, each after a space.
-fn put_events(out: &mut [u8], at: usize, list: &[u16], n: u16) -> usize
-    requires { (at + event_width * n ≤ length out.old) × (n ≤ length list.now) }
-    ensures { AppendsShort (event_width * n) (spaced_all (take n list.now)) at out.old out.new result }
+// Numbers, each after a space.
+fn put_events(out: &mut [u8], at: usize, list: &[u16]) -> usize
+    requires { at + event_width * length list.now ≤ length out.old }
+    ensures { AppendsShort (event_width * length list.now) (spaced_all list.now) at out.old out.new result }
 {
-    let last = n as usize;
     let mut end = at;
-    let mut i = 0;
-    while i < last {
-        end = appending::put_event(out, end, list[i]);
-        i += 1;
+    for k in list {
+        end = appending::put_event(out, end, *k);
     }
     end
 }
@@ -54,14 +51,14 @@ fn put_race(out: &mut [u8], at: usize, a: u16, b: u16) -> usize
     appending::put_word(out, higher, b" witness")
 }
 
-// The line of a race, whose witness is the first n numbers of a list.
-pub fn race(out: &mut [u8], at: usize, a: u16, b: u16, list: &[u16], n: u16) -> usize
-    requires { RaceRoom at n list.now out.old }
-    ensures { Appends (race_line a b (take n list.now)) at out.old out.new result }
+// The line of a race with its witness.
+pub fn race(out: &mut [u8], at: usize, a: u16, b: u16, witness: &[u16]) -> usize
+    requires { RaceRoom at witness.now out.old }
+    ensures { Appends (race_line a b witness.now) at out.old out.new result }
 {
     let head = put_race(out, at, a, b);
-    let witness = put_events(out, head, list, n);
-    appending::put_byte(out, witness, b'\n')
+    let end = put_events(out, head, witness);
+    appending::put_byte(out, end, b'\n')
 }
 
 pub fn races(out: &mut [u8], at: usize, k: u32) -> usize
