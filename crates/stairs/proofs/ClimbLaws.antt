@@ -9,29 +9,13 @@ use mathlib.Core.List.{List, [], ◌∷◌}
 use lib.ListN.{length, drop, set, length-set, drop_of_length-le}
 use lib.Seq.{sets, drop-cons}
 use lib.Dec.{leb, ltb}
-use borrow.Author.Tests.{ltb-true, ltb-false, lt-ltb, le-ltb, le-leb, lt-leb}
+use borrow.Author.Tests.{ltb-true, ltb-false, lt-ltb, le-leb, lt-leb}
 use Rattle.model.specs.Lists.{in_front}
 use Rattle.model.proofs.Tests.{by_cases, clash, both, true_both, either_true, or_right, false_test}
 use Rattle.model.proofs.Lists.{sets_front, get_d_mem}
 use Rattle.decision.specs.Stairs.{climb}
 use Rattle.stairs.specs.Stairs.{at}
 use Rattle.stairs.specs.Passes.{is_moved_next, Climbing}
-
--- ---- whose event is next: the ways through `moved_next`
-
-module _ (need P Q : List ℕ) (i j : ℕ) where
-  pub next_over : length P ≤ i → ltb i (length P) ≡ is_moved_next (at need) P Q i j
-  unfolding is_moved_next
-  next_over h = rw (le-ltb i (length P) h)
-
-  module _ (h : i < length P) where
-    pub next-left : length Q ≤ j → leb (length Q) j ≡ is_moved_next (at need) P Q i j
-    unfolding is_moved_next
-    next-left b = rw (lt-ltb i (length P) h, le-leb (length Q) j b)
-
-    pub next_both : j < length Q → (k : ℕ) → k ≡ at Q j → leb (at P i) (at need k) ≡ is_moved_next (at need) P Q i j
-    unfolding is_moved_next
-    next_both b k e = rw (lt-ltb i (length P) h, lt-leb (length Q) j b, e)
 
 -- ---- the merge by its first event
 

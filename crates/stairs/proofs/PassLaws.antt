@@ -2,11 +2,11 @@
 use Prim.Native.Nat.{ℕ, ◌+◌, ◌≤◌, ◌<◌}
 use native.Mathlib.Omega.{arith}
 use mathlib.Core.Path.{◌≡◌, refl, ap, ◌∙◌}
-use mathlib.Core.Logic.{◌≢◌}
 use mathlib.Core.Bool.{Bool, true, false}
 use mathlib.Core.List.{List}
 use lib.ListN.{length, set, replicate, length-set}
 use lib.Seq.{get_or-set_same}
+use Rattle.std.specs.Prelude.{Some, None}
 use Rattle.model.specs.Trace.{Trace, Valid}
 use Rattle.model.specs.Lists.{◌∈◌}
 use Rattle.model.proofs.Lists.{get_d_mem, mem_place}
@@ -17,7 +17,7 @@ use Rattle.stairs.specs.Passes.{Moved, Upto, Reached, Met, Begun, nowhere, outsi
 use Rattle.table.proofs.BeganFacts.{began_valid}
 use Rattle.stairs.proofs.PlaceLaws.{equal_or_not, at_set, set_grows, total-set, place_up, place_order}
 use Rattle.stairs.proofs.SlotLaws.{upto_start, upto_further}
-use Rattle.stairs.proofs.RuleLaws.{asked-none, asked-some, raise_below, rest_rule}
+use Rattle.stairs.proofs.RuleLaws.{asked-some, raise_below, rest_rule}
 
 -- the events of Q before place j are at rest: each needs no more than what passed, event n, and their rules hold
 pub record Rested (t : Trace) (m : ℕ) (P Q ends : List ℕ) (n j : ℕ) (need : List ℕ) : Type 0 where
@@ -132,36 +132,35 @@ module _ {s : List ℕ} {m : ℕ} {P Q ends need₀ : List ℕ} (w : Ready s m P
 
   -- ---- it pulls
 
-  begun_place : {o : ℕ} → Begun (trace s) m k o → o < length need
-  begun_place (nowhere none) = let a = turn_place in omega arith
+  begun_place : {o : ℕ} → Begun (trace s) m k (Some o) → o < length need
   begun_place (outside o) =
       let b = w.lists.begun k (turn_in) o in let a = turn_place in omega arith
 
-  asked_below : {o : ℕ} → Begun (trace s) m k o → (g : ℕ → ℕ) → Solution (trace s) m P Q ends need₀ g → asked (trace s) reach o ≤ g o
-  asked_below (nowhere none) g z = let a = asked-none (trace s) reach 0 refl in omega arith
+  asked_below : {o : ℕ} → Begun (trace s) m k (Some o) → (g : ℕ → ℕ) → Solution (trace s) m P Q ends need₀ g → asked (trace s) reach o ≤ g o
   asked_below (outside o) g z =
       let a = asked-some (trace s) reach (began (trace s) k) (slot_of (trace s) (began (trace s) k)) o.begins refl in
       let c = p.behind g z j (omega arith) h in
       let b = raise_below m k g p.upto o (z.apart k (turn_in)) (rw e c) in omega arith
 
   -- P has passed as far before every later event too
-  asked_behind : {o : ℕ} → Begun (trace s) m k o → (g : ℕ → ℕ) → Solution (trace s) m P Q ends need₀ g → (x : ℕ) → j ≤ x → x < length Q → asked (trace s) reach o ≤ g (at Q x)
-  asked_behind (nowhere none) g z x a b = let c = asked-none (trace s) reach 0 refl in omega arith
+  asked_behind : {o : ℕ} → Begun (trace s) m k (Some o) → (g : ℕ → ℕ) → Solution (trace s) m P Q ends need₀ g → (x : ℕ) → j ≤ x → x < length Q → asked (trace s) reach o ≤ g (at Q x)
   asked_behind (outside o) g z x a b =
       let c = w.lists.begun k (turn_in) o in
       let d = asked_below (outside o) g z in
       let f = turn_behind x a b in
       let u = climbs_to z (began (trace s) k) (at Q x) c.0 (get_d_mem Q x b) (omega arith) in omega arith
 
-  asked_rule : {o : ℕ} → Begun (trace s) m k o → Reached (trace s) P ends i n reach → at need k ≤ n → asked (trace s) reach o ≤ at need o → Rule (trace s) m P ends (at need) k
-  asked_rule (nowhere none) r b low = λ o. absurd (none o)
+  asked_rule : {o : ℕ} → Begun (trace s) m k (Some o) → Reached (trace s) P ends i n reach → at need k ≤ n → asked (trace s) reach o ≤ at need o → Rule (trace s) m P ends (at need) k
   asked_rule (outside o) r b low =
       let a = asked-some (trace s) reach (began (trace s) k) (slot_of (trace s) (began (trace s) k)) o.begins refl in
       rest_rule m k (at need) r b (omega arith)
 
-  begun_asked : {o : ℕ} → Begun (trace s) m k o → o ≢ 0 → Valid (trace s) o
-  begun_asked (nowhere none) ne = absurd (ne refl)
-  begun_asked (outside o) ne = began_valid (trace s) k (turn_valid) ne
+  begun_asked : {o : ℕ} → Begun (trace s) m k (Some o) → Valid (trace s) o
+  begun_asked (outside o) = began_valid (trace s) k (turn_valid) o.begins
+
+  -- with no such interval there is no rule to keep
+  no_rule : (g : ℕ → ℕ) → Begun (trace s) m k None → Rule (trace s) m P ends g k
+  no_rule g (nowhere none) = λ o. absurd (none o)
 
   stood : at need k ≡ n → Rule (trace s) m P ends (at need) k → Rested (trace s) m P Q ends n j need → Rested (trace s) m P Q ends n (j + 1) need
   stood here r z =
@@ -172,7 +171,22 @@ module _ {s : List ℕ} {m : ℕ} {P Q ends need₀ : List ℕ} (w : Ready s m P
         apart = λ x c. equal_or_not x j (λ q. rw (q, ← e) r) (λ q. z.apart x (omega arith));
       }
 
-  module _ {o : ℕ} (b : Begun (trace s) m k o) (most : ℕ) (ea : most ≡ asked (trace s) reach o) where
+  -- it is at rest
+  passing_stood : at need k ≡ n → (raised ≡ false → Rule (trace s) m P ends (at need) k) → Passing (trace s) m P Q ends need₀ i n (j + 1) raised need reach
+  passing_stood here r =
+      record {
+        upto = p.upto;
+        small = p.small;
+        same = p.same;
+        grows = p.grows;
+        below = p.below;
+        behind = λ g z x a d. p.behind g z x (omega arith) d;
+        more = p.more;
+        lifted = p.lifted;
+        rest = λ f. stood here (r f) (p.rest f);
+      }
+
+  module _ {o : ℕ} (b : Begun (trace s) m k (Some o)) (most : ℕ) (ea : most ≡ asked (trace s) reach o) where
     -- P passes further, and it is met again
     passing_further : n < most → most < 65536 → Passing (trace s) m P Q ends need₀ i most j raised need reach
     passing_further d f =
@@ -190,18 +204,7 @@ module _ {s : List ℕ} {m : ℕ} {P Q ends need₀ : List ℕ} (w : Ready s m P
 
     passing_pulled : Reached (trace s) P ends i n reach → at need k ≡ n → {raised' : Bool} {need' : List ℕ} → Pulled o most raised need raised' need'
         → Passing (trace s) m P Q ends need₀ i n (j + 1) raised' need' reach
-    passing_pulled c here (stands low) =
-        record {
-          upto = p.upto;
-          small = p.small;
-          same = p.same;
-          grows = p.grows;
-          below = p.below;
-          behind = λ g z x a d. p.behind g z x (omega arith) d;
-          more = p.more;
-          lifted = p.lifted;
-          rest = λ f. stood here (asked_rule b c (omega arith) (omega arith)) (p.rest f);
-        }
+    passing_pulled c here (stands low) = passing_stood here (λ f. asked_rule b c (omega arith) (omega arith))
     passing_pulled c here (lifts high) =
         let d = begun_place b in
         let t = total-set need o most d in
@@ -226,8 +229,12 @@ module _ {s : List ℕ} {m : ℕ} {P Q ends need₀ : List ℕ} (w : Ready s m P
   pub turn_upto : Upto (trace s) P ends i r reach
   turn_upto = upto_further p.upto r q.larger.first
 
-  module _ {o : ℕ} (b : Begun (trace s) m k o) where
-    pub turn_begun : o ≢ 0 → Valid (trace s) o
+  -- with no interval to pull at
+  pub passing_none : Begun (trace s) m k None → r < 65536 → {i' : ℕ} {reach' : List ℕ} → Reached (trace s) P ends i' r reach' → Passing (trace s) m P Q ends need₀ i' r (j + 1) raised need' reach'
+  passing_none b d c = let z = passing_met w p h k e q d c in passing_stood w z h k e (met_here w p h k e q) (λ f. no_rule w z h k e (at need') b)
+
+  module _ {o : ℕ} (b : Begun (trace s) m k (Some o)) where
+    pub turn_begun : Valid (trace s) o
     turn_begun = begun_asked w p h k e b
 
     pub turn_pull : o < length need'

@@ -1,20 +1,19 @@
 -- Where the interval of an event of Q begins, and its rule: what its slot is reached up to is needed by every solution, and is all that the rule asks.
-use Prim.Native.Nat.{ℕ, ◌≤◌, ◌<◌}
+use Prim.Native.Nat.{ℕ, ◌≤◌}
 use native.Mathlib.Omega.{arith}
 use mathlib.Core.Path.{◌≡◌, sym, ap, ◌∙◌}
 use mathlib.Core.Logic.{◌≢◌}
-use mathlib.Core.Bool.{Bool, true}
 use mathlib.Core.List.{List}
-use lib.ListN.{set}
 use lib.Dec.{ltb}
-use borrow.Author.Tests.{eq-eqb, ne_eqb, ltb-true, ltb-false}
+use borrow.Author.Tests.{ne_eqb, ltb-true, ltb-false}
+use Rattle.std.specs.Prelude.{Some, None}
 use Rattle.model.specs.Trace.{Trace, Valid, thread_of}
 use Rattle.model.proofs.Tests.{by_cases}
 use Rattle.model.proofs.Lists.{get_d_mem, mem_place}
 use Rattle.table.specs.Links.{began}
 use Rattle.table.proofs.BeganFacts.{began_valid}
 use Rattle.stairs.specs.Stairs.{at, slot_of, InOthers, Rule}
-use Rattle.stairs.specs.Passes.{Upto, Reached, Begun, nowhere, outside, asked, Pulled, stands, lifts}
+use Rattle.stairs.specs.Passes.{Upto, Reached, Begun, nowhere, outside, asked}
 use Rattle.stairs.proofs.PlaceLaws.{equal_or_not}
 
 -- ---- where an interval begins
@@ -23,30 +22,19 @@ module _ (t : Trace) (m k o : ℕ) (e : o ≡ began t k) where
   pub begun_valid : Valid t k → o ≢ 0 → Valid t o
   begun_valid v n = rw e (began_valid t k v (λ z. n (e ∙ z)))
 
-  pub begun_none : o ≡ 0 → Begun t m k 0
+  pub begun_none : o ≡ 0 → Begun t m k None
   begun_none z = nowhere (λ i. i.begins (sym e ∙ z))
 
   module _ (c : ℕ) (ec : c ≡ thread_of t o) where
-    pub begun_moved : c ≡ m → Begun t m k 0
+    pub begun_moved : c ≡ m → Begun t m k None
     begun_moved f = nowhere (λ i. i.thread (sym (ap (thread_of t) e) ∙ sym ec ∙ f))
 
-    pub begun_outside : o ≢ 0 → c ≢ m → Begun t m k o
+    pub begun_outside : o ≢ 0 → c ≢ m → Begun t m k (Some o)
     begun_outside n f = rw e (outside (record { begins = λ z. n (e ∙ z); thread = λ q. f (ec ∙ ap (thread_of t) e ∙ q) }))
-
-pub asked-none : (t : Trace) (reach : List ℕ) (o : ℕ) → o ≡ 0 → 0 ≡ asked t reach o
-unfolding asked
-asked-none t reach o e = rw (eq-eqb o 0 e)
 
 pub asked-some : (t : Trace) (reach : List ℕ) (o s : ℕ) → o ≢ 0 → s ≡ slot_of t o → at reach s ≡ asked t reach o
 unfolding asked
 asked-some t reach o s n e = rw (ne_eqb o 0 n, e)
-
-module _ (o most : ℕ) (raised : Bool) (need : List ℕ) where
-  pub pull_stands : most ≤ at need o → Pulled o most raised need raised need
-  pull_stands h = stands h
-
-  pub pull_lifts : at need o < most → Pulled o most raised need true (set need o most)
-  pull_lifts h = lifts h
 
 -- ---- the rule of event k
 

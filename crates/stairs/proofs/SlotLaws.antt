@@ -2,28 +2,14 @@
 use Prim.Native.Nat.{ℕ, zero, suc, ◌+◌, ◌≤◌, ◌<◌, max}
 use native.Mathlib.Omega.{arith}
 use mathlib.Core.Path.{◌≡◌, refl, sym, ◌∙◌}
-use mathlib.Core.Logic.{◌≢◌}
 use mathlib.Core.List.{List}
 use lib.ListN.{length, set, replicate, length-set, length-replicate}
-use borrow.Author.Tests.{eq-eqb, ne_eqb}
-use Rattle.model.specs.Trace.{Trace, Valid, acquire, kind_of, object_of}
-use Rattle.model.specs.Good.{max_object}
+use Rattle.model.specs.Trace.{Trace, Valid}
 use Rattle.model.proofs.Lists.{get_d_mem}
 use Rattle.table.specs.Table.{trace}
 use Rattle.stairs.specs.Stairs.{at, slot_of, slots}
 use Rattle.stairs.specs.Passes.{Moved, Noted, Upto, Reached}
 use Rattle.stairs.proofs.PlaceLaws.{equal_or_not, at_set, set_grows, place_up}
-
--- ---- the slot of an event
-
-module _ (t : Trace) (k x c : ℕ) (ex : x ≡ object_of t k) (ec : c ≡ kind_of t k) where
-  pub slot_lock : c ≡ acquire → suc max_object + x ≡ slot_of t k
-  unfolding slot_of
-  slot_lock e = rw (eq-eqb (kind_of t k) acquire (sym ec ∙ e), ex)
-
-  pub slot_cell : c ≢ acquire → x ≡ slot_of t k
-  unfolding slot_of
-  slot_cell n = rw (ne_eqb (kind_of t k) acquire (λ e. n (ec ∙ e)), ex)
 
 -- ---- one event passes
 

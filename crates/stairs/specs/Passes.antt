@@ -1,5 +1,5 @@
 -- What the steps of a pass do, and how the merge by a staircase goes on.
-use Rattle.std.specs.Prelude.{ℕ, ◌+◌, ◌≤◌, ◌<◌, ◌≡◌, Bool, true, false, cond, ◌&&◌, ◌||◌, List, [], ◌∷◌, length, set, eqb, leb, ltb}
+use Rattle.std.specs.Prelude.{ℕ, ◌+◌, ◌≤◌, ◌<◌, ◌≡◌, Bool, true, false, cond, ◌&&◌, ◌||◌, List, [], ◌∷◌, length, set, eqb, leb, ltb, Option, Some, None}
 use Rattle.model.specs.Trace.{Trace, Valid}
 use Rattle.model.specs.Lists.{◌∈◌}
 use Rattle.model.specs.Good.{Good}
@@ -50,10 +50,10 @@ pub record Met (k n : ℕ) (need : List ℕ) (r : ℕ) (need' : List ℕ) : Type
   pub larger : Larger n (at need k) r
   pub put : need' ≡ set need k r
 
--- where the interval of event k begins, if it begins outside thread m; 0 otherwise
-pub data Begun (t : Trace) (m k : ℕ) : ℕ → Type 0 where
-  nowhere : ¬ InOthers t m k → Begun t m k 0
-  outside : InOthers t m k → Begun t m k (began t k)
+-- where the interval of event k begins, if it begins outside thread m
+pub data Begun (t : Trace) (m k : ℕ) : Option ℕ → Type 0 where
+  nowhere : ¬ InOthers t m k → Begun t m k None
+  outside : InOthers t m k → Begun t m k (Some (began t k))
 
 -- what the slot of event o is reached up to; 0 where there is none
 unfoldable pub asked : Trace → List ℕ → ℕ → ℕ

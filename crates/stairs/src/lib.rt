@@ -2,7 +2,7 @@
 // A pass goes along q once, with as much of p passed as its events need; passes repeat until one raises nothing.
 #![tactic(auto)]
 
-ghost use Rattle.std.specs.Prelude.{◌≡◌, ◌≢◌, ◌<◌, length};
+ghost use Rattle.std.specs.Prelude.{◌≡◌, ◌<◌, length};
 ghost use Rattle.model.specs.Trace.{Valid};
 ghost use Rattle.model.specs.Lists.{in_front};
 ghost use Rattle.model.specs.Good.{Good};
@@ -18,6 +18,7 @@ use table::wide;
 const SLOTS: usize = 2 * Event::OBJECTS;
 
 // The slot of the interval that event k begins.
+#[tactic(auto, unfolding(crate::specs::Stairs::slot_of))]
 fn slot(table: &[u16], k: usize) -> usize
     requires { Good (trace table.now) × Valid (trace table.now) k }
     ensures value { result ≡ slot_of (trace table.now) k }
@@ -31,6 +32,7 @@ fn slot(table: &[u16], k: usize) -> usize
 }
 
 // Event v of p passes: its slot is reached up to the end of the interval that it begins.
+#[tactic(auto, using(crate::proofs::SlotLaws::note_none, crate::proofs::SlotLaws::note_up))]
 fn note(table: &[u16], ends: &[u16], reach: &mut [u16; SLOTS], v: usize)
     requires good { Good (trace table.now) × Valid (trace table.now) v }
     requires v_in_bounds { (v < length ends.now) × (length reach.old ≡ slots) }
@@ -75,30 +77,30 @@ fn meet(need: &mut [u16], k: usize, n: u16) -> u16
     r
 }
 
-// Where the interval of event k of q begins; 0 where it has none, or one that begins in thread m.
-fn begun(table: &[u16], m: u8, k: usize) -> usize
+// Where the interval of event k of q begins, if it has one that does not begin in thread m.
+#[tactic(auto, using(crate::proofs::RuleLaws::begun_valid, crate::proofs::RuleLaws::begun_none, crate::proofs::RuleLaws::begun_moved, crate::proofs::RuleLaws::begun_outside))]
+fn begun(table: &[u16], m: u8, k: usize) -> Option<usize>
     requires { Linked table.now × Valid (trace table.now) k }
     ensures { Begun (trace table.now) m k result }
 {
     let o = table::began_at(table, k);
     if o == 0 || table::thread_at(table, o) == m {
-        return 0;
+        return None;
     }
-    o
+    Some(o)
 }
 
-// What the slot of event o is reached up to; 0 where there is none.
+// What the slot of event o is reached up to.
+#[tactic(auto, unfolding(crate::specs::Passes::asked))]
 fn asked(table: &[u16], reach: &[u16; SLOTS], o: usize) -> u16
-    requires { Good (trace table.now) × (o ≢ 0 → Valid (trace table.now) o) }
+    requires { Good (trace table.now) × Valid (trace table.now) o }
     ensures { result ≡ asked (trace table.now) reach.now o }
 {
-    if o == 0 {
-        return 0;
-    }
     reach[slot(table, o)]
 }
 
 // Event o needs at least `most`. Was it raised, or anything before?
+#[tactic(auto, using(crate::specs::Passes::stands, crate::specs::Passes::lifts))]
 fn pull(need: &mut [u16], o: usize, most: u16, raised: bool) -> bool
     requires { o < length need.old }
     ensures { Pulled o most raised need.old result need.new }
@@ -125,13 +127,14 @@ fn pass(table: &[u16], m: u8, p: &[u16], q: &[u16], ends: &[u16], need: &mut [u1
         let k = wide(q[j]);
         n = meet(need, k, n);
         i = advance(table, p, ends, &mut reach, i, n);
-        let o = begun(table, m, k);
-        let most = asked(table, &reach, o);
-        if n < most {
-            n = most;
-            continue;
+        if let Some(o) = begun(table, m, k) {
+            let most = asked(table, &reach, o);
+            if n < most {
+                n = most;
+                continue;
+            }
+            raised = pull(need, o, most, raised);
         }
-        raised = pull(need, o, most, raised);
         j += 1;
     }
     raised
@@ -146,6 +149,7 @@ pub fn solve(table: &[u16], m: u8, p: &[u16], q: &[u16], ends: &[u16], need: &mu
 }
 
 // At place i of p and j of q, is the event of p next?
+#[tactic(auto, unfolding(crate::specs::Passes::is_moved_next))]
 fn moved_next(p: &[u16], q: &[u16], need: &[u16], i: usize, j: usize) -> bool
     requires { j < length q.now → at q.now j < length need.now }
     ensures { result ≡ is_moved_next (at need.now) p.now q.now i j }
