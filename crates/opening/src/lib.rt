@@ -14,15 +14,7 @@ ghost use Rattle.opening.specs.Filling.{Columns, Turn, Stepped, Filled, Built};
 ghost use Rattle.opening.specs.Knows.{LastEvents, Tails, LastWrites, Forks, Depths, NextEnds, LastTaken, access_began};
 ghost use Rattle.opening.specs.Opening.{Opens};
 
-use format::File;
 use limits::{Event, Refusal, Thread};
-
-// A refused file, or how many words its table has.
-#[derive(Clone, Copy)]
-pub enum Opened {
-    Refused(Refusal),
-    Words(usize),
-}
 
 // Word c of event k, where it is the event's own: its thread and its kind, a byte each, or its object.
 fn own_word(ev: &[u8], k: usize, c: usize) -> u16
@@ -357,11 +349,9 @@ fn build(ev: &[u8], area: &mut [u16]) -> usize
 }
 
 // Judges a file; the table of a good one is put in the front of the lent area.
-pub fn table_of(file: &[u8], area: &mut [u16; table::ROOM]) -> Opened
+pub fn table_of(file: &[u8], area: &mut [u16; table::ROOM]) -> Result<usize, Refusal>
     ensures { Opens (refusal_of file.now) (events_of file.now) area.old area.new result }
 {
-    match judging::judge(file) {
-        File::Refused(r) => Opened::Refused(r),
-        File::Good(t) => Opened::Words(build(format::events(file, t), area)),
-    }
+    let t = judging::judge(file)?;
+    Ok(build(format::events(file, t), area))
 }
