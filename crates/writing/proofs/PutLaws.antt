@@ -2,12 +2,15 @@
 use Prim.Native.Nat.{ℕ, ◌+◌, ◌*◌, ◌≤◌, ◌<◌}
 use native.Mathlib.Omega.{arith}
 use native.Mathlib.Numerals.{add-one}
-use mathlib.Core.Path.{◌≡◌}
+use mathlib.Core.Path.{◌≡◌, ◌∙◌, ap}
 use mathlib.Core.List.{List, [], ◌∷◌, ◌++◌}
 use lib.ListN.{length, get_or, take}
 use lib.Seq.{take-suc, take_all}
 use mir.Val.{Fits}
 use mir.Syntax.{w16}
+use Rattle.std.specs.List.{zip}
+use Rattle.std.proofs.lemmas.List.{get_or_default}
+use Rattle.std.proofs.lemmas.Slice.Zip.{length-zip, get_or-zip}
 use Rattle.model.specs.Trace.{no_event}
 use Rattle.limits.specs.Limits.{event_bytes, trailer_bytes, max_bytes, mark_first, mark_second}
 use Rattle.appending.specs.Appended.{Appends}
@@ -15,21 +18,18 @@ use Rattle.appending.proofs.AppendLaws.{appends_nothing, appends_then}
 use Rattle.writing.specs.Written.{bytes16, bytes32, written_event, written_events, written_trailer, written, written_bytes, trace_from, Even, Fitting, file_with}
 use Rattle.writing.proofs.ListLaws.{from-length, from_at, events_then, events-length}
 
-module _ {at p r : ℕ} {out o₁ out' : List ℕ} where
-  -- the low half of a number and the high one
-  pub halves_put : {low high : List ℕ} (whole : List ℕ) → Appends low at out o₁ p → Appends high p o₁ out' r → whole ≡ low ++ high → Appends whole at out out' r
-  halves_put whole a b e = rw e (appends_then a b)
+-- ---- an event, and the trailer
 
+module _ {at p r : ℕ} {out o₁ out' : List ℕ} where
   module _ {q : ℕ} {o₂ : List ℕ} where
     pub event_put : (c d x : ℕ) → Appends (c ∷ []) at out o₁ p → Appends (d ∷ []) p o₁ o₂ q → Appends (bytes16 x) q o₂ out' r
         → Appends (written_event event_bytes (record { thread = c; kind = d; object = x })) at out out' r
     event_put c d x a b e = appends_then a (appends_then b e)
 
-    module _ {s : ℕ} {o₃ : List ℕ} where
-      pub trailer_put : (n : ℕ) → Appends (bytes32 (trailer_bytes + event_bytes * n)) at out o₁ p → Appends (bytes16 n) p o₁ o₂ q
-          → Appends (mark_first ∷ []) q o₂ o₃ s → Appends (mark_second ∷ []) s o₃ out' r → Appends (written_trailer event_bytes n) at out out' r
-      unfolding written_trailer
-      trailer_put n a b c d = appends_then a (appends_then b (appends_then c d))
+    pub trailer_put : (n : ℕ) → Appends (bytes32 (trailer_bytes + event_bytes * n)) at out o₁ p → Appends (bytes16 n) p o₁ o₂ q
+        → Appends (mark_first ∷ mark_second ∷ []) q o₂ out' r → Appends (written_trailer event_bytes n) at out out' r
+    unfolding written_trailer
+    trailer_put n a b c = appends_then a (appends_then b c)
 
 -- ---- the events, one by one
 
@@ -47,9 +47,6 @@ module _ {threads kinds objects : List ℕ} {at : ℕ} {out₀ : List ℕ} where
   laid_none e h = record { done = appends_nothing at out₀ (omega arith); place = omega arith; low = omega arith; even = e; room = h }
 
   module _ {out : List ℕ} {end i : ℕ} (w : Laid threads kinds objects at out₀ out end i) where
-    pub laid_room : i < length threads → end + event_bytes ≤ length out
-    laid_room h = let a = w.place in let b = w.room in let c = w.done.same in omega arith
-
     one_more : i < length threads → written_events event_bytes (take (i + 1) (trace_from threads kinds objects))
         ≡ written_events event_bytes (take i (trace_from threads kinds objects)) ++ written_event event_bytes (record { thread = get_or threads i 0; kind = get_or kinds i 0; object = get_or objects i 0 })
     unfolding written_events
@@ -58,19 +55,31 @@ module _ {threads kinds objects : List ℕ} {at : ℕ} {out₀ : List ℕ} where
         let l = from-length threads kinds objects w.even in
         rw (add-one i, take-suc t i no_event (omega arith), events_then event_bytes (take i t) (get_or t i no_event ∷ []), from_at threads kinds objects w.even i h)
 
-    pub laid_one : i < length threads → {out' : List ℕ} {r : ℕ}
-        → Appends (written_event event_bytes (record { thread = get_or threads i 0; kind = get_or kinds i 0; object = get_or objects i 0 })) end out out' r
-        → Laid threads kinds objects at out₀ out' r (i + 1)
-    laid_one h b = record {
-      done = rw (one_more h) (appends_then w.done b);
-      place = let e = b.ends in let p = w.place in omega arith;
-      low = omega arith;
-      even = w.even;
-      room = w.room;
-    }
+    zipped : length (zip (zip threads kinds) objects) ≡ length threads
+    zipped = let e = w.even.kinds_too in let f = w.even.objects_too in rw (length-zip (zip threads kinds) objects, length-zip threads kinds) (omega arith)
 
-    pub laid_all : length threads ≤ i → Appends (written_events event_bytes (trace_from threads kinds objects)) at out₀ out end
-    laid_all h = let l = from-length threads kinds objects w.even in rw (take_all i (trace_from threads kinds objects) (omega arith)) at w.done
+    -- what the lists have at place i is put
+    pub laid_one : {c d x : ℕ} → i < length (zip (zip threads kinds) objects) → ((c, d), x) ≡ get_or (zip (zip threads kinds) objects) i ((c, d), x) → {out' : List ℕ} {r : ℕ}
+        → Appends (written_event event_bytes (record { thread = c; kind = d; object = x })) end out out' r → Laid threads kinds objects at out₀ out' r (i + 1)
+    laid_one {c} {d} {x} h e b =
+        let n = zipped in
+        let k = w.even.kinds_too in
+        let o = w.even.objects_too in
+        let z = e ∙ get_or-zip (zip threads kinds) objects i ((c, d), x) (rw length-zip (omega arith)) (omega arith) in
+        let y = ap (λ (p : (ℕ × ℕ) × ℕ). p.0) z ∙ get_or-zip threads kinds i (c, d) (omega arith) (omega arith) in
+        let ec : c ≡ get_or threads i 0 = ap (λ (p : ℕ × ℕ). p.0) y ∙ get_or_default threads i c 0 (omega arith) in
+        let ed : d ≡ get_or kinds i 0 = ap (λ (p : ℕ × ℕ). p.1) y ∙ get_or_default kinds i d 0 (omega arith) in
+        let ex : x ≡ get_or objects i 0 = ap (λ (p : (ℕ × ℕ) × ℕ). p.1) z ∙ get_or_default objects i x 0 (omega arith) in
+        record {
+          done = rw (one_more (omega arith)) (appends_then w.done (rw (ec, ed, ex) at b));
+          place = let e = b.ends in let p = w.place in omega arith;
+          low = omega arith;
+          even = w.even;
+          room = w.room;
+        }
+
+    pub laid_all : i ≡ length (zip (zip threads kinds) objects) → Appends (written_events event_bytes (trace_from threads kinds objects)) at out₀ out end
+    laid_all h = let n = zipped in let l = from-length threads kinds objects w.even in rw (take_all i (trace_from threads kinds objects) (omega arith)) at w.done
 
 -- ---- the whole file
 

@@ -1,5 +1,5 @@
 -- The ways through the writer.
-use Prim.Native.Nat.{ℕ, ◌+◌, ◌*◌, ◌≤◌, ◌<◌}
+use Prim.Native.Nat.{ℕ, ◌≤◌, ◌<◌}
 use native.Mathlib.Omega.{arith}
 use mathlib.Core.Path.{◌≡◌, refl, sym, ◌∙◌, ap}
 use mathlib.Core.Logic.{inl}
@@ -9,7 +9,7 @@ use mathlib.Core.List.{List}
 use lib.ListN.{length, take, take-append-drop}
 use lib.Seq.{length-take-le}
 use lib.Dec.{eqb, leb}
-use borrow.Author.Tests.{eqb-true, eq-eqb, ne_eqb, leb-true, lt-leb, le-leb, lt-ltb, le-ltb, not-true, not-false}
+use borrow.Author.Tests.{eqb-true, eq-eqb, leb-true, lt-ltb, le-ltb, not-true, not-false}
 use Rattle.model.proofs.Tests.{both, true_both, test_false}
 use Rattle.model.specs.Lists.{in_front}
 use Rattle.limits.specs.Limits.{event_bytes, trailer_bytes, max_bytes, is_file_size}
@@ -18,8 +18,6 @@ use Rattle.limits.specs.declared.Refusal.TheVariants.{FileSize, ListShort}
 use Rattle.limits.specs.declared.Recording.{Recording}
 use Rattle.format.specs.Layout.{file_of}
 use Rattle.format.proofs.LayoutExact.{true_sized}
-use Rattle.format.specs.declared.File.{File}
-use Rattle.format.specs.declared.File.TheVariants.{Refused as FileRefused, Good as FileGood}
 use Rattle.judging.specs.Judged.{refusal_of}
 use Rattle.judging.proofs.FileLaws.{meaning, judged_refused, judged_clean}
 use Rattle.appending.specs.Appended.{Appends}
@@ -27,20 +25,11 @@ use Rattle.writing.specs.Written.{written_bytes, trace_from, Even, Fitting}
 use Rattle.writing.proofs.ListLaws.{from-length}
 use Rattle.writing.proofs.SizeLaws.{written-length}
 use Rattle.writing.specs.Writing.{file_from, is_even, handed, answer_write}
-use Rattle.writing.specs.declared.Written.{Written}
-use Rattle.writing.specs.declared.Written.TheVariants.{Refused, Bytes}
+use Rattle.std.specs.Prelude.{Result, Ok, Err}
 
 -- ---- the lists
 
 module _ (threads kinds objects : List ℕ) where
-  pub kinds_other : (length kinds ≡ length threads → ⊥) → false ≡ is_even threads kinds objects
-  unfolding is_even
-  kinds_other ne = rw (ne_eqb _ _ ne)
-
-  pub kinds_same : length kinds ≡ length threads → eqb (length objects) (length threads) ≡ is_even threads kinds objects
-  unfolding is_even
-  kinds_same e = rw (eq-eqb _ _ e)
-
   pub even_true : is_even threads kinds objects ≡ true → Even threads kinds objects
   unfolding is_even
   even_true e =
@@ -51,40 +40,22 @@ module _ (threads kinds objects : List ℕ) where
   unfolding is_even
   true_even p = true_both (eq-eqb _ _ p.kinds_too) (eq-eqb _ _ p.objects_too)
 
--- ---- the size
-
-module _ (p n : ℕ) where
-  too_long : (m : ℕ) → max_bytes < m → false ≡ is_file_size m
-  too_long m h = rw (le-leb trailer_bytes m (omega arith), lt-leb m max_bytes h)
-
-  pub preamble_long : max_bytes < p → false ≡ is_file_size (written_bytes event_bytes p n)
-  unfolding written_bytes
-  preamble_long h = too_long (written_bytes event_bytes p n) (omega arith)
-
-  pub events_many : max_bytes < n → false ≡ is_file_size (written_bytes event_bytes p n)
-  unfolding written_bytes
-  events_many h = too_long (written_bytes event_bytes p n) (omega arith)
-
-  pub size_is : (b : Bool) → b ≡ is_file_size (p + event_bytes * n + trailer_bytes) → b ≡ is_file_size (written_bytes event_bytes p n)
-  unfolding written_bytes
-  size_is b e = let q : p + event_bytes * n + trailer_bytes ≡ p + (event_bytes * n + trailer_bytes) = omega arith in e ∙ ap is_file_size q
-
 -- ---- handing a file to a buffer
 
-pub refused_no_bytes : (r : Refusal) (n : ℕ) → Refused r ≡ Bytes n → ⊥
+pub refused_no_bytes : (r : Refusal) (n : ℕ) → ◌≡◌ {A = Result ℕ Refusal} (Err r) (Ok n) → ⊥
 refused_no_bytes r n e = let z : ◌≡◌ {A = ℕ} 0 1 = cc in omega arith
 
-module _ (s buffer : List ℕ) (f : File) (is : f ≡ file_of s (refusal_of s)) where
-  pub hand_refused : (r : Refusal) → f ≡ FileRefused r → (Refused r, buffer) ≡ handed s buffer
+module _ (s buffer : List ℕ) (f : Result Recording Refusal) (is : f ≡ file_of s (refusal_of s)) where
+  pub hand_refused : (r : Refusal) → f ≡ Err r → (Err r, buffer) ≡ handed s buffer
   unfolding handed
   hand_refused r e = rw (judged_refused s f is r e)
 
-  module _ (t : Recording) (e : f ≡ FileGood t) where
-    pub hand_short : length buffer < length s → (Refused ListShort, buffer) ≡ handed s buffer
+  module _ (t : Recording) (e : f ≡ Ok t) where
+    pub hand_short : length buffer < length s → (Err ListShort, buffer) ≡ handed s buffer
     unfolding handed
     hand_short h = rw (judged_clean s f is t e, lt-ltb (length buffer) (length s) h)
 
-    pub hand_good : length s ≤ length buffer → {out : List ℕ} {r : ℕ} → Appends s 0 buffer out r → (Bytes r, out) ≡ handed s buffer
+    pub hand_good : length s ≤ length buffer → {out : List ℕ} {r : ℕ} → Appends s 0 buffer out r → (Ok r, out) ≡ handed s buffer
     unfolding handed in_front
     hand_good h {out} {r} a =
         let n : r ≡ length s = let x = a.ends in omega arith in
@@ -103,7 +74,7 @@ module _ {threads kinds objects : List ℕ} (b : Bool) (eb : b ≡ is_even threa
       record { even = lists_even; fits = leb-true m max_bytes (both (leb trailer_bytes m) (leb m max_bytes) (sym ed ∙ not-false d h)).1 }
 
 module _ (p threads kinds objects buffer : List ℕ) (b : Bool) (eb : b ≡ is_even threads kinds objects) where
-  pub lists_uneven : not b ≡ true → (Refused ListShort, buffer) ≡ answer_write p threads kinds objects buffer
+  pub lists_uneven : not b ≡ true → (Err ListShort, buffer) ≡ answer_write p threads kinds objects buffer
   unfolding answer_write
   lists_uneven h = rw (← eb, h)
 
@@ -117,14 +88,14 @@ module _ (p threads kinds objects buffer : List ℕ) (b : Bool) (eb : b ≡ is_e
         ∙ ap (written_bytes event_bytes (length p)) (from-length threads kinds objects (lists_even b eb ok))
 
     module _ (d : Bool) (ed : d ≡ is_file_size (written_bytes event_bytes (length p) (length threads))) where
-      pub file_long : not d ≡ true → (Refused FileSize, buffer) ≡ answer_write p threads kinds objects buffer
+      pub file_long : not d ≡ true → (Err FileSize, buffer) ≡ answer_write p threads kinds objects buffer
       unfolding answer_write
       file_long h =
           let file = file_from p threads kinds objects in
           let n = test_false (true_sized file) (ap is_file_size size ∙ sym ed ∙ not-true d h) in
           rw (are_even, (meaning file (some FileSize)).1 (record { first_row = inl (n, refl) }))
 
-    pub handed_on : {w : Written} {buffer' : List ℕ} → (w, buffer') ≡ handed (file_from p threads kinds objects) buffer → (w, buffer') ≡ answer_write p threads kinds objects buffer
+    pub handed_on : {w : Result ℕ Refusal} {buffer' : List ℕ} → (w, buffer') ≡ handed (file_from p threads kinds objects) buffer → (w, buffer') ≡ answer_write p threads kinds objects buffer
     unfolding answer_write handed
     handed_on e = e ∙ rw are_even
 
@@ -133,5 +104,5 @@ module _ {file out out' : List ℕ} {r : ℕ} (a : Appends file 0 out out' r) wh
   pub front-count : r ≡ length (take r out')
   front-count = sym (length-take-le r out' (let w = a.within in let s = a.same in omega arith))
 
-  pub front-handed : (buffer : List ℕ) {w : Written × List ℕ} → w ≡ handed (take r out') buffer → w ≡ handed file buffer
+  pub front-handed : (buffer : List ℕ) {w : Result ℕ Refusal × List ℕ} → w ≡ handed (take r out') buffer → w ≡ handed file buffer
   front-handed buffer e = e ∙ rw a.front

@@ -28,7 +28,7 @@ use Rattle.writing.specs.Written.{written, written_bytes, Even}
 use Rattle.writing.proofs.SizeLaws.{written-length}
 use Rattle.writing.proofs.ReadsBack.{count_back, marked_back, pointed_back, reads_back}
 use Rattle.writing.specs.Writing.{NotTooLong, write_rows, WriteAnswer, file_from, Writes, is_even, hand_refusal, answer_write}
-use Rattle.writing.specs.declared.Written.{Written}
+use Rattle.std.specs.Prelude.{Result}
 use Rattle.writing.proofs.WriteLaws.{even_true, true_even}
 
 -- ---- a written file
@@ -91,7 +91,7 @@ module _ (z : ℕ) (h : 4 ≤ z) (p : List ℕ) (t : Trace) where
 -- ---- the writer's answer
 
 -- each answer, with the buffer after it, exactly in its case
-pub write_exactly : (p threads kinds objects buffer : List ℕ) (w : Written × List ℕ) → (answer_write p threads kinds objects buffer ≡ w) ↔ Writes p threads kinds objects buffer w
+pub write_exactly : (p threads kinds objects buffer : List ℕ) (w : Result ℕ Refusal × List ℕ) → (answer_write p threads kinds objects buffer ≡ w) ↔ Writes p threads kinds objects buffer w
 unfolding answer_write
 write_exactly p threads kinds objects buffer w =
     let file = file_from p threads kinds objects in

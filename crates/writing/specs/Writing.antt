@@ -1,5 +1,5 @@
 -- The writer: the answer, and the lent buffer after it.
-use Rattle.std.specs.Prelude.{ℕ, ◌≤◌, ◌<◌, ◌≡◌, Bool, not, ◌&&◌, List, [], ◌∷◌, ◌++◌, length, eqb, ltb}
+use Rattle.std.specs.Prelude.{ℕ, ◌≤◌, ◌<◌, ◌≡◌, Bool, not, ◌&&◌, List, [], ◌∷◌, ◌++◌, length, eqb, ltb, Result, Ok, Err}
 use Rattle.std.proofs.Math.Option.{Option, none, some}
 use Rattle.model.specs.Trace.{Trace}
 use Rattle.model.specs.Lists.{in_front}
@@ -13,8 +13,6 @@ use Rattle.limits.specs.declared.Refusal.TheVariants.{ListShort}
 use Rattle.format.specs.Readable.{Readable}
 use Rattle.judging.specs.Judged.{refusal_of, rows_of_file}
 use Rattle.writing.specs.Written.{written_bytes, trace_from, Even, file_with}
-use Rattle.writing.specs.declared.Written.{Written}
-use Rattle.writing.specs.declared.Written.TheVariants.{Refused, Bytes}
 
 -- ---- what reading says of a written file, by what was handed in: a preamble p and a trace t, with z bytes to an event
 
@@ -42,8 +40,8 @@ abbrev pub file_from : List ℕ → List ℕ → List ℕ → List ℕ → List 
 file_from p threads kinds objects = file_with p (trace_from threads kinds objects)
 
 -- the file in the front of the buffer, and the rest as it was
-abbrev pub wrote : List ℕ → List ℕ → Written × List ℕ
-wrote file buffer = (Bytes (length file), in_front file buffer)
+abbrev pub wrote : List ℕ → List ℕ → Result ℕ Refusal × List ℕ
+wrote file buffer = (Ok (length file), in_front file buffer)
 
 -- the rows: lists of different lengths have no file, which is refusal 10; then those of reading the file; a buffer too short is refusal 10, judged last
 abbrev pub writer_rows : List ℕ → List ℕ → List ℕ → List ℕ → List ℕ → List Row
@@ -51,8 +49,8 @@ writer_rows p threads kinds objects buffer =
     row 10 nothing (¬ Even threads kinds objects) ∷ (rows_of_file (file_from p threads kinds objects) ++ row 10 nothing (length buffer < length (file_from p threads kinds objects)) ∷ [])
 
 -- what each answer means; a refusal changes nothing
-abbrev pub Writes : List ℕ → List ℕ → List ℕ → List ℕ → List ℕ → Written × List ℕ → Type 0
-Writes p threads kinds objects buffer w = Asked (writer_rows p threads kinds objects buffer) (λ r. (Refused r, buffer)) (λ w. wrote (file_from p threads kinds objects) buffer ≡ w) w
+abbrev pub Writes : List ℕ → List ℕ → List ℕ → List ℕ → List ℕ → Result ℕ Refusal × List ℕ → Type 0
+Writes p threads kinds objects buffer w = Asked (writer_rows p threads kinds objects buffer) (λ r. (Err r, buffer)) (λ w. wrote (file_from p threads kinds objects) buffer ≡ w) w
 
 -- ---- computed
 
@@ -63,10 +61,10 @@ is_even threads kinds objects = eqb (length kinds) (length threads) && eqb (leng
 abbrev pub hand_refusal : List ℕ → List ℕ → Option Refusal
 hand_refusal file buffer = either (refusal_of file) (first (ltb (length buffer) (length file) ∷ []) (ListShort ∷ []))
 
-unfoldable pub handed : List ℕ → List ℕ → Written × List ℕ
-handed file buffer = settled (λ r. (Refused r, buffer)) (wrote file buffer) (hand_refusal file buffer)
+unfoldable pub handed : List ℕ → List ℕ → Result ℕ Refusal × List ℕ
+handed file buffer = settled (λ r. (Err r, buffer)) (wrote file buffer) (hand_refusal file buffer)
 
-unfoldable pub answer_write : List ℕ → List ℕ → List ℕ → List ℕ → List ℕ → Written × List ℕ
+unfoldable pub answer_write : List ℕ → List ℕ → List ℕ → List ℕ → List ℕ → Result ℕ Refusal × List ℕ
 answer_write p threads kinds objects buffer =
     let file = file_from p threads kinds objects in
-    settled (λ r. (Refused r, buffer)) (wrote file buffer) (either (first (not (is_even threads kinds objects) ∷ []) (ListShort ∷ [])) (hand_refusal file buffer))
+    settled (λ r. (Err r, buffer)) (wrote file buffer) (either (first (not (is_even threads kinds objects) ∷ []) (ListShort ∷ [])) (hand_refusal file buffer))

@@ -8,23 +8,20 @@ ghost use Rattle.writing.specs.Writing.{file_from, is_even, handed, answer_write
 ghost use Rattle.appending.specs.Appended.{Appends};
 
 use appending::{put_byte, put_word};
-use format::File;
 use limits::{Event, Recording, Refusal};
 
 fn put16(out: &mut [u8], at: usize, n: u16) -> usize
     requires { at + 2 ≤ length out.old }
     ensures { Appends (bytes16 n) at out.old out.new result }
 {
-    let high = put_byte(out, at, (n % 256) as u8);
-    put_byte(out, high, (n / 256) as u8)
+    put_word(out, at, &n.to_le_bytes())
 }
 
 fn put32(out: &mut [u8], at: usize, n: u32) -> usize
     requires { at + 4 ≤ length out.old }
     ensures { Appends (bytes32 n) at out.old out.new result }
 {
-    let high = put16(out, at, (n % 65536) as u16);
-    put16(out, high, (n / 65536) as u16)
+    put_word(out, at, &n.to_le_bytes())
 }
 
 fn put_event(out: &mut [u8], at: usize, thread: u8, kind: u8, object: u16) -> usize
@@ -43,10 +40,8 @@ fn put_events(out: &mut [u8], at: usize, threads: &[u8], kinds: &[u8], objects: 
     ensures { Appends (written_events event_bytes (trace_from threads.now kinds.now objects.now)) at out.old out.new result }
 {
     let mut end = at;
-    let mut i = 0;
-    while i < threads.len() {
-        end = put_event(out, end, threads[i], kinds[i], objects[i]);
-        i += 1;
+    for ((thread, kind), object) in threads.iter().zip(kinds).zip(objects) {
+        end = put_event(out, end, *thread, *kind, *object);
     }
     end
 }
@@ -59,8 +54,7 @@ fn put_trailer(out: &mut [u8], at: usize, n: u16) -> usize
     let distance = Recording::TRAILER_BYTES as u32 + Event::BYTES as u32 * n as u32;
     let count = put32(out, at, distance);
     let mark = put16(out, count, n);
-    let last = put_byte(out, mark, Recording::MARK_FIRST);
-    put_byte(out, last, Recording::MARK_SECOND)
+    put_word(out, mark, &[Recording::MARK_FIRST, Recording::MARK_SECOND])
 }
 
 // The file of a preamble and of the events that the three lists have, in the front of the buffer.
@@ -79,49 +73,33 @@ pub fn put_file(
     put_trailer(out, trailer, threads.len() as u16)
 }
 
-// How many bytes were written, or why none were.
-#[derive(Clone, Copy)]
-pub enum Written {
-    Refused(Refusal),
-    Bytes(usize),
-}
-
 // Have the lists one length?
+#[tactic(auto, unfolding(crate::specs::Writing::is_even))]
 fn even(threads: &[u8], kinds: &[u8], objects: &[u16]) -> bool
     ensures { result ≡ is_even threads.now kinds.now objects.now }
 {
-    if kinds.len() != threads.len() {
-        return false;
-    }
-    objects.len() == threads.len()
+    kinds.len() == threads.len() && objects.len() == threads.len()
 }
 
 // Is the file of so many bytes of preamble and so many events not too long?
+#[tactic(auto, unfolding(crate::specs::Written::written_bytes))]
 fn fits(preamble: usize, events: usize) -> bool
     ensures { result ≡ is_file_size (written_bytes event_bytes preamble events) }
 {
-    if Recording::MAX_BYTES < preamble {
-        return false;
-    }
-    if Recording::MAX_BYTES < events {
-        return false;
-    }
-    Recording::bytes_in_limit(preamble + Event::BYTES * events + Recording::TRAILER_BYTES)
+    preamble <= Recording::MAX_BYTES
+        && events <= Recording::MAX_BYTES
+        && Recording::bytes_in_limit(preamble + Event::BYTES * events + Recording::TRAILER_BYTES)
 }
 
-// Hands a file to a buffer, if reading it refuses nothing and the buffer is long enough.
-fn hand(file: &[u8], buffer: &mut [u8]) -> Written
+// Hands a file to a buffer, if reading it refuses nothing and the buffer is long enough: how many bytes it has.
+fn hand(file: &[u8], buffer: &mut [u8]) -> Result<usize, Refusal>
     ensures { (result, buffer.new) ≡ handed file.now buffer.old }
 {
-    match judging::judge(file) {
-        File::Refused(r) => Written::Refused(r),
-        File::Good(_) => {
-            if buffer.len() < file.len() {
-                return Written::Refused(Refusal::ListShort);
-            }
-            Written::Bytes(put_word(buffer, 0, file))
-        }
+    judging::judge(file)?;
+    if buffer.len() < file.len() {
+        return Err(Refusal::ListShort);
     }
+    Ok(put_word(buffer, 0, file))
 }
 
 // Makes the file, and hands it to the buffer.
@@ -131,7 +109,7 @@ fn write_fitting(
     kinds: &[u8],
     objects: &[u16],
     buffer: &mut [u8],
-) -> Written
+) -> Result<usize, Refusal>
     requires { Fitting preamble.now threads.now kinds.now objects.now }
     ensures { (result, buffer.new) ≡ handed (file_from preamble.now threads.now kinds.now objects.now) buffer.old }
 {
@@ -148,14 +126,14 @@ pub fn write_file(
     kinds: &[u8],
     objects: &[u16],
     buffer: &mut [u8],
-) -> Written
+) -> Result<usize, Refusal>
     ensures { (result, buffer.new) ≡ answer_write preamble.now threads.now kinds.now objects.now buffer.old }
 {
     if !even(threads, kinds, objects) {
-        return Written::Refused(Refusal::ListShort);
+        return Err(Refusal::ListShort);
     }
     if !fits(preamble.len(), threads.len()) {
-        return Written::Refused(Refusal::FileSize);
+        return Err(Refusal::FileSize);
     }
     write_fitting(preamble, threads, kinds, objects, buffer)
 }

@@ -1,11 +1,12 @@
+use Rattle.std.proofs.Common.{rules}
 use Rattle.writing.proofs.WriteLaws.{hand_refused, hand_short, hand_good}
 use Rattle.writing.proofs.hand.Goals as goal
 
+pub returns-in_err-judge : goal.returns-in_err-judge
+returns-in_err-judge c = search (hand_refused, rules)
+
 pub returns-then-buffer-file : goal.returns-then-buffer-file
-returns-then-buffer-file c = search hand_short
+returns-then-buffer-file c = search (hand_short, rules)
 
-pub returns-in-Refused : goal.returns-in-Refused
-returns-in-Refused c = search hand_refused
-
-pub returns-else-buffer-file : goal.returns-else-buffer-file
-returns-else-buffer-file c = search hand_good
+pub returns : goal.returns
+returns c = search (hand_good, rules)
