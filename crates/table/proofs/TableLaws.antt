@@ -2,12 +2,9 @@
 use Prim.Native.Nat.{ℕ, zero, suc, ◌+◌, ◌-◌, ◌*◌, ◌/◌, ◌%◌, ◌≤◌, ◌<◌}
 use native.Mathlib.Omega.{arith}
 use mathlib.Core.Path.{◌≡◌, refl, ap, sym, ◌∙◌}
-use mathlib.Core.Bool.{false}
 use mathlib.Core.List.{List}
 use lib.ListN.{length, get_or}
-use lib.Dec.{eqb}
-use borrow.Author.Tests.{eq-eqb, ne_eqb}
-use Rattle.model.specs.Trace.{Event, Trace, no_event, fork, at, thread_of, kind_of, object_of, Valid, does}
+use Rattle.model.specs.Trace.{Event, Trace, no_event, fork, at, thread_of, kind_of, object_of, Valid}
 use Rattle.model.specs.Good.{Good, max_thread, max_object}
 use Rattle.model.proofs.Tests.{child_small, object_small}
 use Rattle.table.specs.Table.{words, word, event_in, rows, trace, columns, column, Linked, Place}
@@ -52,16 +49,6 @@ module _ (s : List ℕ) (k : ℕ) (v : Valid (trace s) k) where
 
     pub column_is : Linked s → (c : ℕ) → c < columns → x ≡ word s k c → x ≡ column c (trace s) k
     column_is w c l e = e ∙ w.is c k l v
-
--- what event k does
-module _ (t : Trace) (k c x kind : ℕ) (ek : kind ≡ kind_of t k) where
-  pub other_kind : (kind ≡ c → ⊥) → false ≡ does t c x k
-  unfolding does
-  other_kind ne = rw (ne_eqb (kind_of t k) c (λ e. ne (ek ∙ e)))
-
-  pub same_kind : kind ≡ c → (o : ℕ) → o ≡ object_of t k → eqb o x ≡ does t c x k
-  unfolding does
-  same_kind e o eo = rw (eq-eqb (kind_of t k) c (sym ek ∙ e), eo)
 
 -- within the limits
 module _ {t : Trace} {k : ℕ} (g : Good t) (v : Valid t k) (x : ℕ) where

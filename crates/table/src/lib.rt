@@ -50,6 +50,7 @@ pub fn wide(x: u16) -> usize
 }
 
 // Word c of event k's row.
+#[tactic(auto, using(crate::proofs::TableLaws::row_there))]
 pub fn word(table: &[u16], k: usize, c: usize) -> usize
     requires { Valid (trace table.now) k × (c < words) }
     ensures value { result ≡ word table.now k c }
@@ -59,6 +60,7 @@ pub fn word(table: &[u16], k: usize, c: usize) -> usize
 }
 
 // How many events there are.
+#[tactic(auto, using(crate::proofs::TableLaws::count_is))]
 pub fn count(table: &[u16]) -> usize
     ensures { result ≡ length (trace table.now) }
 {
@@ -66,6 +68,7 @@ pub fn count(table: &[u16]) -> usize
 }
 
 // The thread of event k. Events are counted from 1.
+#[tactic(auto, using(crate::proofs::TableLaws::thread_is))]
 pub fn thread_at(table: &[u16], k: usize) -> u8
     requires { Valid (trace table.now) k }
     ensures { result ≡ thread_of (trace table.now) k }
@@ -74,6 +77,7 @@ pub fn thread_at(table: &[u16], k: usize) -> u8
 }
 
 // The kind of event k.
+#[tactic(auto, using(crate::proofs::TableLaws::kind_is))]
 pub fn kind_at(table: &[u16], k: usize) -> u8
     requires { Valid (trace table.now) k }
     ensures { result ≡ kind_of (trace table.now) k }
@@ -82,6 +86,7 @@ pub fn kind_at(table: &[u16], k: usize) -> u8
 }
 
 // The object of event k: a cell, a lock, or the thread that is forked or joined.
+#[tactic(auto, using(crate::proofs::TableLaws::object_is))]
 pub fn object_at(table: &[u16], k: usize) -> usize
     requires { Valid (trace table.now) k }
     ensures { result ≡ object_of (trace table.now) k }
@@ -90,6 +95,7 @@ pub fn object_at(table: &[u16], k: usize) -> usize
 }
 
 // The thread of event k, as a place of a list by thread.
+#[tactic(auto, using(crate::proofs::TableLaws::thread_place))]
 pub fn thread_place(table: &[u16], k: usize) -> usize
     requires { Good (trace table.now) × Valid (trace table.now) k }
     ensures value { result ≡ thread_of (trace table.now) k }
@@ -99,6 +105,7 @@ pub fn thread_place(table: &[u16], k: usize) -> usize
 }
 
 // The object of event k, as a place of a list by object.
+#[tactic(auto, using(crate::proofs::TableLaws::object_place))]
 pub fn object_place(table: &[u16], k: usize) -> usize
     requires { Good (trace table.now) × Valid (trace table.now) k }
     ensures value { result ≡ object_of (trace table.now) k }
@@ -108,6 +115,7 @@ pub fn object_place(table: &[u16], k: usize) -> usize
 }
 
 // The thread that event k forks or joins, as a place of a list by thread.
+#[tactic(auto, using(crate::proofs::TableLaws::child_place))]
 pub fn child_place(table: &[u16], k: usize) -> usize
     requires { Good (trace table.now) × (Valid (trace table.now) k × (fork ≤ kind_of (trace table.now) k)) }
     ensures value { result ≡ object_of (trace table.now) k }
@@ -117,6 +125,7 @@ pub fn child_place(table: &[u16], k: usize) -> usize
 }
 
 // Is event k of this kind, on this object?
+#[tactic(auto, unfolding(model::specs::Trace::does))]
 pub fn is_event(table: &[u16], k: usize, kind: u8, object: usize) -> bool
     requires { Valid (trace table.now) k }
     ensures { result ≡ does (trace table.now) kind object k }
@@ -125,6 +134,7 @@ pub fn is_event(table: &[u16], k: usize, kind: u8, object: usize) -> bool
 }
 
 // What column c has of event k.
+#[tactic(auto, using(crate::proofs::TableLaws::column_is))]
 fn column_at(table: &[u16], k: usize, c: usize) -> usize
     requires { Linked table.now × (Valid (trace table.now) k × (c < columns)) }
     ensures value { result ≡ column c (trace table.now) k }
@@ -188,6 +198,7 @@ fn accesses(c: u8, d: u8) -> bool
 }
 
 // Are two events of the trace, lower first, a conflicting pair: of one cell, of different threads, both accesses, at least one a write?
+#[tactic(auto, using(crate::proofs::ConflictLaws::other_cell, crate::proofs::ConflictLaws::same_thread, crate::proofs::ConflictLaws::by_kinds))]
 fn conflicting_in(table: &[u16], a: usize, b: usize) -> bool
     requires { Lower (trace table.now) a b }
     ensures { result ≡ is_conflicting (trace table.now) a b }
@@ -198,6 +209,7 @@ fn conflicting_in(table: &[u16], a: usize, b: usize) -> bool
 }
 
 // Are a and b a conflicting pair? Any two numbers may be asked.
+#[tactic(auto, using(crate::proofs::ConflictLaws::below, crate::proofs::ConflictLaws::not_lower, crate::proofs::ConflictLaws::above))]
 pub fn conflicting(table: &[u16], a: u16, b: u16) -> bool
     ensures { result ≡ is_conflicting (trace table.now) a b }
 {
@@ -215,6 +227,7 @@ pub fn set_word(table: &mut [u16], k: usize, c: usize, x: u16)
 }
 
 // How many different threads have an event: the ones of a mask.
+#[tactic(auto, using(crate::proofs::ThreadLaws::seen_start, crate::proofs::ThreadLaws::seen_valid, crate::proofs::ThreadLaws::seen_small, crate::proofs::ThreadLaws::seen_more, crate::proofs::ThreadLaws::seen_end))]
 pub fn threads(table: &[u16]) -> u32
     requires { Good (trace table.now) }
     ensures { result ≡ length (threads (trace table.now)) }
