@@ -34,9 +34,6 @@ pub record Passing (t : Trace) (list : List ℕ) (i : ℕ) (last writes locks : 
   pub knows : Knows t (passed list i) last writes locks
   pub rest : fault_from t [] list ≡ fault_from t (passed list i) (drop i list)
 
-pub passing_start : {t : Trace} {last writes locks : List ℕ} → Knows t [] last writes locks → (list : List ℕ) → Passing t list 0 last writes locks
-passing_start k list = record { knows = k; rest = refl }
-
 module _ {t : Trace} {list : List ℕ} {i : ℕ} {last writes locks : List ℕ} (p : Passing t list i last writes locks) where
   module _ (h : i < length list) {r : Result (Unit {0}) Fault} (w : FaultTold t last writes locks (get_or list i 0) r) where
     here : fault_number r ≡ place_fault t (passed list i) (get_or list i 0)

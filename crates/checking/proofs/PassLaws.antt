@@ -112,12 +112,6 @@ fork_bounded {t} {k} v o e = let z = fork_less t k v.positive in let b = v.bound
 pub waits_bounded : {t : Trace} {k : ℕ} → Good t → Valid t k → (o : ℕ) → o ≡ waits_for t k → o ≤ length t
 waits_bounded {t} {k} g v o e = let z = waits_less t g.well_formed k v in let b = v.bounded in omega arith
 
-pub passed_none : (t : Trace) (last : List ℕ) (j : ℕ) → j < 1 → PassedTold t last j true
-passed_none t last j f = let z : j ≡ 0 = omega arith in record { is = λ h writes locks q. rw z }
-
-pub passed_valid : (t : Trace) (j : ℕ) → 1 ≤ j → j ≤ length t → Valid t j
-passed_valid t j p q = record { positive = p; bounded = q }
-
 pub passed_upto : {t : Trace} {j : ℕ} → 1 ≤ j → j ≤ length t → (last : List ℕ) (c : ℕ) → c ≡ thread_of t j → c ≤ max_thread → (l : ℕ) → l ≡ get_or last c 0 → PassedTold t last j (leb j l)
 passed_upto {t} {j} p b last c ec lc l el =
     record {

@@ -11,22 +11,13 @@ returns-then-at-lt1 c =
       | then-at-lt1-via-else-at-lt1+then-count-at w ↦ search (number_high, rules)
     ]
 
-pub is_next-requires : goal.is_next-requires
-is_next-requires c = search (number_valid, rules)
-
 pub returns-then-not-is_next : goal.returns-then-not-is_next
 returns-then-not-is_next c = search (not-next, number_valid, rules)
-
-pub access_fault-requires : goal.access_fault-requires
-access_fault-requires c = search (number_valid, rules)
 
 pub returns-in_err-access_fault : goal.returns-in_err-access_fault
 returns-in_err-access_fault c =
     let p = err_from_is_err_and c.from_residual.result c.from_residual.ensures.1 in
     rw (p.1, p.2) (search (access_found, number_valid, rules))
-
-pub is_ready-requires : goal.is_ready-requires
-is_ready-requires c = search (number_valid, rules)
 
 pub returns-then-not-is_ready : goal.returns-then-not-is_ready
 returns-then-not-is_ready c = search (not_ready, number_valid, rules)

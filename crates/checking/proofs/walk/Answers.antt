@@ -1,10 +1,7 @@
 use Rattle.std.proofs.Common.{rules}
 use Rattle.std.proofs.lemmas.Result.{err_from_is_err_and}
-use Rattle.checking.proofs.CheckLaws.{passing_start, passing_fault, passing_valid, passing_on, passing_end}
+use Rattle.checking.proofs.CheckLaws.{passing_fault, passing_valid, passing_on, passing_end}
 use Rattle.checking.proofs.walk.Goals as goal
-
-pub loop-k-init : goal.loop-k-init
-loop-k-init c = search (passing_start, rules)
 
 pub returns-in_err-fault_at : goal.returns-in_err-fault_at
 returns-in_err-fault_at c =
