@@ -3,7 +3,7 @@ use Prim.Native.Nat.{ℕ, ◌+◌, ◌≤◌, ◌<◌}
 use native.Mathlib.Omega.{arith}
 use mathlib.Core.Path.{◌≡◌, sym, ◌∙◌, ap}
 use mathlib.Core.Logic.{◌≢◌}
-use mathlib.Core.Bool.{false, not}
+use mathlib.Core.Bool.{false}
 use mathlib.Core.List.{List}
 use lib.ListN.{length, get_or, set, replicate, length-set, length-replicate, get_or-replicate}
 use lib.Seq.{get_or-set_same, get_or-set_other}
@@ -72,10 +72,6 @@ bars_end {s} {R} g b h = record {
 }
 
 -- ---- `has_root`
-
-pub has_root_lem : (t : Trace) (bars : List ℕ) (k c : ℕ) → c ≡ thread_of t k → not (eqb (get_or bars c 0) no_root) ≡ has_root bars (thread_of t k)
-unfolding has_root
-has_root_lem t bars k c e = ap (has_root bars) e
 
 pub no_root_lem : (bars : List ℕ) (c : ℕ) → has_root bars c ≡ false → get_or bars c 0 ≡ no_root
 unfolding has_root

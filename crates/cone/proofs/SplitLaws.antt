@@ -15,7 +15,7 @@ use borrow.Author.Tests.{eqb-true, eqb-false, leb-true, le-leb, not-true, not-fa
 use Rattle.model.specs.Trace.{Trace, Valid, thread_of}
 use Rattle.model.specs.Lists.{up_to, before, keep, only, just, all_but}
 use Rattle.model.specs.Good.{Good, max_thread}
-use Rattle.model.proofs.Tests.{by_cases, both, true_both, false_test, just-true, true-just, true-all_but, false-all_but}
+use Rattle.model.proofs.Tests.{by_cases, both, true_both, false_test, just-true, true-just}
 use Rattle.model.proofs.Lists.{keep-reverse}
 use Rattle.table.specs.Links.{previous}
 use Rattle.table.specs.Table.{trace}
@@ -154,16 +154,7 @@ module _ {t : Trace} {m : ℕ} {tops : List ℕ} {k r : ℕ} {out : List ℕ} (p
   pub moved_end : k ≤ 0 → Moved t m tops r out
   moved_end h = let z : k ≡ 0 = omega arith in record { low = p.low; is = sym (only_under t (just m) tops ∙ p.is ∙ rw z) }
 
--- ---- `is_other` and `put`
-
-module _ (t : Trace) (m : ℕ) (tops : List ℕ) (k c : ℕ) (ec : c ≡ thread_of t k) where
-  pub other-own : c ≡ m → false ≡ is_of t (all_but m) tops k
-  unfolding is_of
-  other-own e = sym (rw (false-all_but m (thread_of t k) (sym ec ∙ e)))
-
-  pub other_is : (c ≡ m → ⊥) → (x : ℕ) → x ≡ get_or tops c 0 → leb k x ≡ is_of t (all_but m) tops k
-  unfolding is_of is_under
-  other_is ne x ex = rw (true-all_but m (thread_of t k) (λ z. ne (ec ∙ z))) (ap (leb k) (ex ∙ ap (λ (d : ℕ). get_or tops d 0) ec))
+-- ---- `put`
 
 module _ {t : Trace} {m : ℕ} {tops : List ℕ} {k r : ℕ} {out : List ℕ} (p : Putting t m tops k r out) (v : Valid t k) where
   pub put_room : r < length out

@@ -3,13 +3,13 @@
 // From a top the events of its thread are followed back, and each brings in its own: that raises tops. This stops as soon as a root is in the cone.
 #![tactic(auto)]
 
-ghost use Rattle.std.specs.Prelude.{◌≡◌, ◌+◌, ◌≤◌, ◌<◌, length, get_or, replicate, true};
+ghost use Rattle.std.specs.Prelude.{◌≡◌, ◌+◌, ◌≤◌, length, get_or, replicate, true};
 ghost use Rattle.model.specs.Trace.{Valid, thread_of};
 ghost use Rattle.model.specs.Lists.{all_but};
 ghost use Rattle.model.specs.Good.{Good, max_thread};
 ghost use Rattle.table.specs.Table.{trace};
-ghost use Rattle.cone.specs.Tops.{Rooted, Told, is_third, Beyond};
-ghost use Rattle.cone.specs.Following.{no_root, has_root, Bars, Within, Coming, Raising, Answer, Raised, BringsIn, Follows, Going, Caught, Round, Behind, IsRoot, BeforeRoot, Started, Seeded};
+ghost use Rattle.cone.specs.Tops.{Rooted, Told, Beyond};
+ghost use Rattle.cone.specs.Following.{has_root, Bars, Within, Coming, Raising, Answer, Raised, BringsIn, Follows, Going, Caught, Round, Behind, IsRoot, BeforeRoot, Started, Seeded};
 ghost use Rattle.cone.specs.Split.{Splits, Moved, Others, is_of, Putting, Highest};
 
 use limits::Thread;
@@ -53,6 +53,7 @@ struct Search<'a> {
 
 impl Search<'_> {
     // Is event k by the thread of a root?
+    #[tactic(auto, unfolding(crate::specs::Following::has_root))]
     fn has_root(&self, k: usize) -> bool
         requires { Good (trace self.now.table.now) × Valid (trace self.now.table.now) k }
         ensures { result ≡ has_root self.now.bars (thread_of (trace self.now.table.now) k) }
@@ -214,6 +215,7 @@ fn behind(done: &[u16; Thread::COUNT], tops: &[u16; Thread::COUNT]) -> bool
 }
 
 // Is no root in the causal cone of the roots? Then the tops are how far it reaches into each thread; they are lent as 0.
+#[tactic(auto, using(crate::proofs::OutsideLaws::told))]
 pub fn outside(table: &[u16], roots: &[u16], tops: &mut [u16; Thread::COUNT]) -> bool
     requires { Rooted table.now roots.now × (tops.old ≡ replicate (max_thread + 1) 0) }
     ensures { Told (trace table.now) roots.now tops.new result }
@@ -252,6 +254,7 @@ pub fn moved(table: &[u16], m: u8, tops: &[u16; Thread::COUNT], out: &mut [u16])
 }
 
 // Is event k up to the top of its thread, and by another thread than m?
+#[tactic(auto, unfolding(crate::specs::Split::is_of, crate::specs::Split::is_under, model::specs::Lists::all_but, model::specs::Lists::just))]
 fn is_other(table: &[u16], m: u8, tops: &[u16; Thread::COUNT], k: usize) -> bool
     requires { Good (trace table.now) × Valid (trace table.now) k }
     ensures { result ≡ is_of (trace table.now) (all_but m) tops.now k }
@@ -280,6 +283,7 @@ fn put(
 }
 
 // The highest top.
+#[tactic(auto, using(crate::proofs::SplitLaws::highest_start, crate::proofs::SplitLaws::highest_more, crate::proofs::SplitLaws::highest_end))]
 fn highest(tops: &[u16; Thread::COUNT]) -> usize
     ensures { Highest tops.now (max_thread + 1) result }
 {
