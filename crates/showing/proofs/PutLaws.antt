@@ -121,7 +121,7 @@ module _ {ev : List ℕ} {at : ℕ} {out₀ : List ℕ} where
   events-first l = record { done = appends_nothing at out₀ (let h = l.room in omega arith); short = omega arith; low = omega arith; high = omega arith; lent = l }
 
   module _ {out : List ℕ} {end k : ℕ} (w : EventsLaid ev at out₀ out end k) (n : ℕ) (is : n ≡ length (trace_in ev)) where
-    module _ (h : k ≤ n) where
+    module _ (h : k < n + 1) where
       pub event_good : GoodAt ev k
       event_good = record { good = w.lent.good; valid = record { positive = w.low; bounded = omega arith } }
 
@@ -140,5 +140,5 @@ module _ {ev : List ℕ} {at : ℕ} {out₀ : List ℕ} where
         lent = w.lent;
       }
 
-    pub events_over : n < k → Appends (events_text (trace_in ev)) at out₀ out end
+    pub events_over : n + 1 ≤ k → Appends (events_text (trace_in ev)) at out₀ out end
     events_over h = let l = w.low in rw (take_all (k - 1) (trace_in ev) (omega arith)) at w.done

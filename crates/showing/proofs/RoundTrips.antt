@@ -26,8 +26,7 @@ use Rattle.judging.proofs.FileLaws.{meaning, quiet_file}
 use Rattle.writing.specs.Written.{file_with}
 use Rattle.writing.specs.RoundTrip.{AllBytes}
 use Rattle.writing.specs.Writing.{wrote, handed}
-use Rattle.writing.specs.declared.Written.{Written}
-use Rattle.writing.specs.declared.Written.TheVariants.{Refused as NotWritten, Bytes}
+use Rattle.std.specs.Prelude.{Result, Ok, Err}
 use Rattle.writing.proofs.WriteLaws.{refused_no_bytes}
 use Rattle.writing.proofs.ReadsBack.{reads_back}
 use Rattle.writing.proofs.WritesAgain.{writes_again, plain_today}
@@ -35,8 +34,6 @@ use Rattle.wording.specs.Lines.{note_line, event_line, InRange, is_comment}
 use Rattle.composing.specs.Texts.{text_bytes, lines, said, joined, Makes}
 use Rattle.showing.specs.Shown.{notes_of, lines_with, text_from, text_with, text_of, shown, Shows, answer_show}
 use Rattle.showing.specs.RoundTrips.{MakesAgain, WhatIsShown, Ended, WhatIsComposed}
-use Rattle.showing.specs.declared.Shown.{Shown}
-use Rattle.showing.specs.declared.Shown.TheVariants.{Text}
 use Rattle.showing.proofs.TextLaws.{Whole, lines_text, text_lines, lines-whole, joined_notes, notes_joined, joined_in, notes_whole}
 use Rattle.showing.proofs.LineLaws.{whole_note, lines_with_whole, lines-said}
 use Rattle.showing.proofs.ShowLaws.{text_fits}
@@ -75,7 +72,7 @@ module _ (s : List ℕ) (g : IsGoodFile s) where
     in_range = in_range (events_of s) g.good;
   }
 
-  file_again : AllBytes s → (buffer : List ℕ) → length s ≤ length buffer → handed (file_with (joined (notes_of (preamble s))) (events_of s)) buffer ≡ (Bytes (length s), in_front s buffer)
+  file_again : AllBytes s → (buffer : List ℕ) → length s ≤ length buffer → handed (file_with (joined (notes_of (preamble s))) (events_of s)) buffer ≡ (Ok (length s), in_front s buffer)
   unfolding handed
   file_again b buffer h =
       rw (joined_notes (preamble s), writes_again event_bytes (omega arith) s b g.layout (plain_today s), (meaning s none).1 g, le-ltb (length buffer) (length s) h)
@@ -84,40 +81,40 @@ module _ (s : List ℕ) (g : IsGoodFile s) where
   makes_again b = record { short = text_fits s g; makes = makes_notes; again = file_again b }
 
 module _ (s : List ℕ) (b : AllBytes s) (out : List ℕ) (n : ℕ) (after : List ℕ) where
-  front_is : {x : Shown × List ℕ} → Shows s out x → x ≡ (Text n, after) → MakesAgain s (take n after)
-  front_is (refuses {r} f) e = let q = ap (λ (x : Shown × List ℕ). x.0) e in let z : ◌≡◌ {A = ℕ} 0 1 = cc in absurd (omega arith)
+  front_is : {x : Result ℕ Refusal × List ℕ} → Shows s out x → x ≡ (Ok n, after) → MakesAgain s (take n after)
+  front_is (refuses {r} f) e = let q = ap (λ (x : Result ℕ Refusal × List ℕ). x.0) e in let z : ◌≡◌ {A = ℕ} 0 1 = cc in absurd (omega arith)
   front_is (answers q f) e =
       let g = (quiet_file s).0 (both_quiet (rows_of_file s) _ q).0 in
-      let w : shown (text_of s) out ≡ (Text n, after) = f ∙ e in
-      let c : Text (length (text_of s)) ≡ Text n = ap (λ (x : Shown × List ℕ). x.0) w in
+      let w : shown (text_of s) out ≡ (Ok n, after) = f ∙ e in
+      let c : ◌≡◌ {A = Result ℕ Refusal} (Ok (length (text_of s))) (Ok n) = ap (λ (x : Result ℕ Refusal × List ℕ). x.0) w in
       let a : length (text_of s) ≡ n = cc in
-      let d : in_front (text_of s) out ≡ after = ap (λ (x : Shown × List ℕ). x.1) w in
+      let d : in_front (text_of s) out ≡ after = ap (λ (x : Result ℕ Refusal × List ℕ). x.1) w in
       let t : take n after ≡ text_of s = rw (← a, ← d) (front_taken (text_of s) out) in
       rw t (makes_again s g b)
 
 -- the first round trip
 pub what_is_shown : WhatIsShown
-what_is_shown s b out n after e = front_is s b out n after ((show_exactly s out (Text n, after)).0 e) refl
+what_is_shown s b out n after e = front_is s b out n after ((show_exactly s out (Ok n, after)).0 e) refl
 
 -- ---- the text that a recording was made of
 
 -- what the writer gave is a good file
 module _ (s buffer : List ℕ) (n : ℕ) (after : List ℕ) where
-  given : wrote s buffer ≡ (Bytes n, after) → take n after ≡ s
+  given : wrote s buffer ≡ (Ok n, after) → take n after ≡ s
   given w =
-      let c : Bytes (length s) ≡ Bytes n = ap (λ (x : Written × List ℕ). x.0) w in
+      let c : ◌≡◌ {A = Result ℕ Refusal} (Ok (length s)) (Ok n) = ap (λ (x : Result ℕ Refusal × List ℕ). x.0) w in
       let a : length s ≡ n = cc in
-      let d : in_front s buffer ≡ after = ap (λ (x : Written × List ℕ). x.1) w in
+      let d : in_front s buffer ≡ after = ap (λ (x : Result ℕ Refusal × List ℕ). x.1) w in
       rw (← a, ← d) (front_taken s buffer)
 
-  handed-good : handed s buffer ≡ (Bytes n, after) → (refusal_of s ≡ none) × (take n after ≡ s)
+  handed-good : handed s buffer ≡ (Ok n, after) → (refusal_of s ≡ none) × (take n after ≡ s)
   unfolding handed
   handed-good e = go (refusal_of s) refl e
     where
-      refused : {A : Type 0} (r : Refusal) → ◌≡◌ {A = Written × List ℕ} (NotWritten r, buffer) (Bytes n, after) → A
-      refused r e = absurd (refused_no_bytes r n (ap (λ (x : Written × List ℕ). x.0) e))
+      refused : {A : Type 0} (r : Refusal) → ◌≡◌ {A = Result ℕ Refusal × List ℕ} (Err r, buffer) (Ok n, after) → A
+      refused r e = absurd (refused_no_bytes r n (ap (λ (x : Result ℕ Refusal × List ℕ). x.0) e))
 
-      go : (o : Option Refusal) → refusal_of s ≡ o → settled (λ r. (NotWritten r, buffer)) (wrote s buffer) (either o (first (ltb (length buffer) (length s) ∷ []) (ListShort ∷ []))) ≡ (Bytes n, after)
+      go : (o : Option Refusal) → refusal_of s ≡ o → settled (λ r. (Err r, buffer)) (wrote s buffer) (either o (first (ltb (length buffer) (length s) ∷ []) (ListShort ∷ []))) ≡ (Ok n, after)
           → (refusal_of s ≡ none) × (take n after ≡ s)
       go (some r) q e = refused r e
       go none q e = by_cases (ltb (length buffer) (length s)) (λ h. refused ListShort (rw h at e)) (λ h. (q, given (rw h at e)))

@@ -15,25 +15,25 @@ use Rattle.limits.specs.declared.Refusal.TheVariants.{ListShort}
 use Rattle.judging.proofs.FileLaws.{question_asked}
 use Rattle.composing.specs.Texts.{text_bytes}
 use Rattle.showing.specs.Shown.{text_of, Shows, answer_show}
-use Rattle.showing.specs.declared.Shown.{Shown}
-use Rattle.showing.specs.declared.Shown.TheVariants.{Text}
+use Rattle.std.specs.Prelude.{Result, Ok}
+use Rattle.limits.specs.declared.Refusal.{Refusal}
 
-pub show_exactly : (s out : List ℕ) (x : Shown × List ℕ) → (answer_show s out ≡ x) ↔ Shows s out x
+pub show_exactly : (s out : List ℕ) (x : Result ℕ Refusal × List ℕ) → (answer_show s out ≡ x) ↔ Shows s out x
 unfolding answer_show
 show_exactly s out x =
     question_asked s (row 10 nothing (length out < text_bytes) ∷ []) (ltb (length out) text_bytes ∷ []) (ListShort ∷ []) ((ltb-true (length out) text_bytes, lt-ltb (length out) text_bytes), tt) refl
     (λ g q x. Iff.rfl) x
 
 -- the bytes of a text are within the lent ones
-within : (s out : List ℕ) (n : ℕ) {x : Shown × List ℕ} → Shows s out x → x.0 ≡ Text n → n ≤ length x.1
+within : (s out : List ℕ) (n : ℕ) {x : Result ℕ Refusal × List ℕ} → Shows s out x → x.0 ≡ Ok n → n ≤ length x.1
 unfolding in_front
 within s out n (refuses f) e = let z : ◌≡◌ {A = ℕ} 0 1 = cc in absurd (omega arith)
 within s out n (answers q f) e =
-    let c : Text (length (text_of s)) ≡ Text n = ap (λ (x : Shown × List ℕ). x.0) f ∙ e in
+    let c : ◌≡◌ {A = Result ℕ Refusal} (Ok (length (text_of s))) (Ok n) = ap (λ (x : Result ℕ Refusal × List ℕ). x.0) f ∙ e in
     let a : length (text_of s) ≡ n = cc in
-    let l = ap (λ (x : Shown × List ℕ). length x.1) f in
+    let l = ap (λ (x : Result ℕ Refusal × List ℕ). length x.1) f in
     let d = length-append (text_of s) (drop (length (text_of s)) out) in
     omega arith
 
-pub text_within : (s out : List ℕ) (r : Shown) (after : List ℕ) → (r, after) ≡ answer_show s out → (n : ℕ) → r ≡ Text n → n ≤ length after
+pub text_within : (s out : List ℕ) (r : Result ℕ Refusal) (after : List ℕ) → (r, after) ≡ answer_show s out → (n : ℕ) → r ≡ Ok n → n ≤ length after
 text_within s out r after e n q = within s out n ((show_exactly s out (r, after)).0 (sym e)) q

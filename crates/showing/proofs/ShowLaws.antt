@@ -15,14 +15,12 @@ use Rattle.appending.proofs.AppendLaws.{appends_then}
 use Rattle.format.specs.Bytes.{trace_in}
 use Rattle.format.specs.Layout.{start, preamble, part_of, file_of}
 use Rattle.format.proofs.PartLaws.{filled, preamble-length, number_of_events, part-trace, span_low}
-use Rattle.format.specs.declared.File.{File}
-use Rattle.format.specs.declared.File.TheVariants.{Refused as FileRefused, Good as FileGood}
+use Rattle.std.specs.Prelude.{Result, Ok, Err}
 use Rattle.judging.specs.Judged.{events_of, refusal_of, IsGoodFile}
 use Rattle.judging.proofs.FileLaws.{judged_refused, judged_clean, judged_good, judged_placed}
 use Rattle.composing.specs.Texts.{text_bytes}
 use Rattle.showing.specs.Shown.{text_of, answer_show}
 use Rattle.showing.specs.Pieces.{byte_width, notes_text, events_text, EventsLent, TextLent}
-use Rattle.showing.specs.declared.Shown.TheVariants.{Refused, Text}
 use Rattle.showing.proofs.LineLaws.{notes_few, all-events_few, text_parts}
 
 -- ---- how long a text is
@@ -83,14 +81,14 @@ module _ {s : List ℕ} {t : Recording} {out : List ℕ} (l : TextLent s t out) 
 
 -- ---- the answer
 
-module _ (s out : List ℕ) (f : File) (is : f ≡ file_of s (refusal_of s)) where
-  pub show_refused : (r : Refusal) → f ≡ FileRefused r → (Refused r, out) ≡ answer_show s out
+module _ (s out : List ℕ) (f : Result Recording Refusal) (is : f ≡ file_of s (refusal_of s)) where
+  pub show_refused : (r : Refusal) → f ≡ Err r → (Err r, out) ≡ answer_show s out
   unfolding answer_show
   show_refused r e = rw (judged_refused s f is r e)
 
-  module _ (t : Recording) (e : f ≡ FileGood t) where
+  module _ (t : Recording) (e : f ≡ Ok t) where
     -- of any bound that is not above the right one, so that one below it is refused where a text may not fit
-    pub show_short : (m : ℕ) → length out < m → m ≤ text_bytes → (Refused ListShort, out) ≡ answer_show s out
+    pub show_short : (m : ℕ) → length out < m → m ≤ text_bytes → (Err ListShort, out) ≡ answer_show s out
     unfolding answer_show
     show_short m h l = rw (judged_clean s f is t e, lt-ltb (length out) text_bytes (omega arith))
 
@@ -98,7 +96,7 @@ module _ (s out : List ℕ) (f : File) (is : f ≡ file_of s (refusal_of s)) whe
       pub text_lent : TextLent s t out
       text_lent = record { good = judged_good s f is t e; placed = judged_placed s f is t e; room = h }
 
-      pub show_good : {out' : List ℕ} {r : ℕ} → Appends (text_of s) 0 out out' r → (Text r, out') ≡ answer_show s out
+      pub show_good : {out' : List ℕ} {r : ℕ} → Appends (text_of s) 0 out out' r → (Ok r, out') ≡ answer_show s out
       unfolding answer_show in_front
       show_good {out'} {r} a =
           let n : r ≡ length (text_of s) = let x = a.ends in omega arith in

@@ -1,5 +1,5 @@
 -- What is shown makes the recording again, and what a recording was made of is shown again.
-use Rattle.std.specs.Prelude.{ℕ, ◌≤◌, ◌≡◌, ◌≢◌, ◌⊎◌, List, [], ◌∷◌, ◌++◌, length, take}
+use Rattle.std.specs.Prelude.{ℕ, ◌≤◌, ◌≡◌, ◌≢◌, ◌⊎◌, List, [], ◌∷◌, ◌++◌, length, take, Ok}
 use Rattle.model.specs.Trace.{Trace}
 use Rattle.model.specs.Lists.{in_front}
 use Rattle.format.specs.Readable.{line_feed}
@@ -8,9 +8,7 @@ use Rattle.judging.specs.Judged.{events_of}
 use Rattle.writing.specs.Written.{file_with}
 use Rattle.writing.specs.RoundTrip.{AllBytes}
 use Rattle.writing.specs.Writing.{handed}
-use Rattle.writing.specs.declared.Written.TheVariants.{Bytes}
 use Rattle.composing.specs.Texts.{text_bytes, lines, said, joined, Makes}
-use Rattle.showing.specs.declared.Shown.TheVariants.{Text}
 use Rattle.showing.specs.Shown.{notes_of, text_from, text_with, shown, answer_show}
 
 -- ---- what is shown
@@ -19,11 +17,11 @@ use Rattle.showing.specs.Shown.{notes_of, text_from, text_with, shown, answer_sh
 pub record MakesAgain (s text : List ℕ) : Type 0 where
   pub short : length text ≤ text_bytes
   pub makes : Makes (lines text) (notes_of (preamble s)) (events_of s)
-  pub again : (buffer : List ℕ) → length s ≤ length buffer → handed (file_with (joined (notes_of (preamble s))) (events_of s)) buffer ≡ (Bytes (length s), in_front s buffer)
+  pub again : (buffer : List ℕ) → length s ≤ length buffer → handed (file_with (joined (notes_of (preamble s))) (events_of s)) buffer ≡ (Ok (length s), in_front s buffer)
 
 -- the first round trip: whatever was shown of a file of bytes
 abbrev pub WhatIsShown : Type 0
-WhatIsShown = (s : List ℕ) → AllBytes s → (out : List ℕ) (n : ℕ) (after : List ℕ) → answer_show s out ≡ (Text n, after) → MakesAgain s (take n after)
+WhatIsShown = (s : List ℕ) → AllBytes s → (out : List ℕ) (n : ℕ) (after : List ℕ) → answer_show s out ≡ (Ok n, after) → MakesAgain s (take n after)
 
 -- ---- what was composed
 
@@ -42,4 +40,4 @@ pub record ShowsAgain (text : List ℕ) (notes : List (List ℕ)) (es : Trace) (
 abbrev pub WhatIsComposed : Type 0
 WhatIsComposed =
     (text : List ℕ) (notes : List (List ℕ)) (es : Trace) → Makes (lines text) notes es → (buffer : List ℕ) (n : ℕ) (after : List ℕ)
-    → handed (file_with (joined notes) es) buffer ≡ (Bytes n, after) → ShowsAgain text notes es (take n after)
+    → handed (file_with (joined notes) es) buffer ≡ (Ok n, after) → ShowsAgain text notes es (take n after)

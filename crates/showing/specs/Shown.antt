@@ -1,5 +1,5 @@
 -- A recording as the text that makes it: its note lines, then its event lines.
-use Rattle.std.specs.Prelude.{ℕ, ◌<◌, ◌≡◌, List, [], ◌∷◌, ◌++◌, map, length, ltb}
+use Rattle.std.specs.Prelude.{ℕ, ◌<◌, ◌≡◌, List, [], ◌∷◌, ◌++◌, map, length, ltb, Result, Ok, Err}
 use Rattle.model.specs.Trace.{Trace}
 use Rattle.model.specs.Lists.{in_front}
 use Rattle.model.specs.Rows.{Row, row, nothing, first, either}
@@ -10,8 +10,7 @@ use Rattle.format.specs.Layout.{preamble}
 use Rattle.judging.specs.Judged.{events_of, refusal_of, rows_of_file}
 use Rattle.wording.specs.Lines.{note_line, event_line}
 use Rattle.composing.specs.Texts.{text_bytes, lines}
-use Rattle.showing.specs.declared.Shown.{Shown}
-use Rattle.showing.specs.declared.Shown.TheVariants.{Refused, Text}
+use Rattle.limits.specs.declared.Refusal.{Refusal}
 
 -- ---- the text
 
@@ -40,18 +39,18 @@ text_of s = text_with (preamble s) (events_of s)
 -- ---- the answer, with the lent bytes after it
 
 -- a text in the front of the lent bytes, and the rest as it was
-abbrev pub shown : List ℕ → List ℕ → Shown × List ℕ
-shown text out = (Text (length text), in_front text out)
+abbrev pub shown : List ℕ → List ℕ → Result ℕ Refusal × List ℕ
+shown text out = (Ok (length text), in_front text out)
 
 -- the rows: those of the file; fewer lent bytes than a text may have are refusal 10
 abbrev pub show_rows : List ℕ → List ℕ → List Row
 show_rows s out = rows_of_file s ++ row 10 nothing (length out < text_bytes) ∷ []
 
 -- what each answer means; a refusal changes nothing
-abbrev pub Shows : List ℕ → List ℕ → Shown × List ℕ → Type 0
-Shows s out x = Asked (show_rows s out) (λ r. (Refused r, out)) (λ x. shown (text_of s) out ≡ x) x
+abbrev pub Shows : List ℕ → List ℕ → Result ℕ Refusal × List ℕ → Type 0
+Shows s out x = Asked (show_rows s out) (λ r. (Err r, out)) (λ x. shown (text_of s) out ≡ x) x
 
 -- computed
-unfoldable pub answer_show : List ℕ → List ℕ → Shown × List ℕ
+unfoldable pub answer_show : List ℕ → List ℕ → Result ℕ Refusal × List ℕ
 answer_show s out =
-    settled (λ r. (Refused r, out)) (shown (text_of s) out) (either (refusal_of s) (first (ltb (length out) text_bytes ∷ []) (ListShort ∷ [])))
+    settled (λ r. (Err r, out)) (shown (text_of s) out) (either (refusal_of s) (first (ltb (length out) text_bytes ∷ []) (ListShort ∷ [])))

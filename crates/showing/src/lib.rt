@@ -10,15 +10,8 @@ ghost use Rattle.showing.specs.Pieces.{note_byte, byte_width, notes_text, spaced
 
 use appending::{put_byte, put_decimal, put_word};
 use composing::TEXT_BYTES;
-use format::{File, NoteByte};
+use format::NoteByte;
 use limits::{Event, Recording, Refusal};
-
-// How many bytes the text has, or why there is none.
-#[derive(Clone, Copy)]
-pub enum Shown {
-    Refused(Refusal),
-    Text(usize),
-}
 
 // ---- the notes
 
@@ -39,14 +32,12 @@ fn put_notes(out: &mut [u8], preamble: &[u8]) -> usize
     requires { byte_width * length preamble.now + byte_width ≤ length out.old }
     ensures { Appends (notes_text preamble.now) 0 out.old out.new result }
 {
-    if preamble.len() == 0 {
+    if preamble.is_empty() {
         return 0;
     }
     let mut end = put_word(out, 0, b"note ");
-    let mut i = 0;
-    while i < preamble.len() {
-        end = put_note_byte(out, end, preamble[i]);
-        i += 1;
+    for b in preamble {
+        end = put_note_byte(out, end, *b);
     }
     put_byte(out, end, NoteByte::LINE_FEED)
 }
@@ -58,7 +49,7 @@ fn put_thread(out: &mut [u8], at: usize, thread: u8) -> usize
     requires { at + 3 ≤ length out.old }
     ensures { AppendsShort 3 (decimal thread) at out.old out.new result }
 {
-    put_decimal(out, at, thread as u32)
+    put_decimal(out, at, u32::from(thread))
 }
 
 // A kind's word after a space.
@@ -66,22 +57,14 @@ fn put_kind(out: &mut [u8], at: usize, kind: u8) -> usize
     requires { at + 8 ≤ length out.old }
     ensures { AppendsShort 8 (spaced_kind kind) at out.old out.new result }
 {
-    if kind == Event::READ {
-        return put_word(out, at, b" read");
+    match kind {
+        Event::READ => put_word(out, at, b" read"),
+        Event::WRITE => put_word(out, at, b" write"),
+        Event::ACQUIRE => put_word(out, at, b" acquire"),
+        Event::RELEASE => put_word(out, at, b" release"),
+        Event::FORK => put_word(out, at, b" fork"),
+        _ => put_word(out, at, b" join"),
     }
-    if kind == Event::WRITE {
-        return put_word(out, at, b" write");
-    }
-    if kind == Event::ACQUIRE {
-        return put_word(out, at, b" acquire");
-    }
-    if kind == Event::RELEASE {
-        return put_word(out, at, b" release");
-    }
-    if kind == Event::FORK {
-        return put_word(out, at, b" fork");
-    }
-    put_word(out, at, b" join")
 }
 
 // An event's line.
@@ -111,12 +94,9 @@ fn put_events(out: &mut [u8], at: usize, ev: &[u8]) -> usize
     requires { EventsLent ev.now out.old at }
     ensures { Appends (events_text (trace_in ev.now)) at out.old out.new result }
 {
-    let n = format::count(ev);
     let mut end = at;
-    let mut k = 1;
-    while k <= n {
+    for k in 1..format::count(ev) + 1 {
         end = put_event(out, end, ev, k);
-        k += 1;
     }
     end
 }
@@ -133,17 +113,13 @@ fn put_text(out: &mut [u8], file: &[u8], t: Recording) -> usize
     put_events(out, end, format::events(file, t))
 }
 
-// Puts the text of a file in the front of the lent bytes. Fewer of them than a text may have are refusal 10.
-pub fn show_text(file: &[u8], text: &mut [u8]) -> Shown
+// Puts the text of a file in the front of the lent bytes: how many bytes it has. Fewer of them than a text may have are refusal 10.
+pub fn show_text(file: &[u8], text: &mut [u8]) -> Result<usize, Refusal>
     ensures { (result, text.new) ≡ answer_show file.now text.old }
 {
-    match judging::judge(file) {
-        File::Refused(r) => Shown::Refused(r),
-        File::Good(t) => {
-            if text.len() < TEXT_BYTES {
-                return Shown::Refused(Refusal::ListShort);
-            }
-            Shown::Text(put_text(text, file, t))
-        }
+    let t = judging::judge(file)?;
+    if text.len() < TEXT_BYTES {
+        return Err(Refusal::ListShort);
     }
+    Ok(put_text(text, file, t))
 }

@@ -3,26 +3,26 @@ use Rattle.wording.specs.Lines.{kind_word}
 use Rattle.showing.proofs.PutLaws.{kind_is, kind_last}
 use Rattle.showing.proofs.put_kind.Goals as goal
 
-pub returns-then-kind-eq-READ : goal.returns-then-kind-eq-READ
+pub returns-in-1 : goal.returns-in-1
 unfolding kind_word
-returns-then-kind-eq-READ c = search (kind_is, rules)
+returns-in-1 c = search (kind_is, rules)
 
-pub returns-then-kind-eq-WRITE : goal.returns-then-kind-eq-WRITE
+pub returns-in-2 : goal.returns-in-2
 unfolding kind_word
-returns-then-kind-eq-WRITE c = search (kind_is, rules)
+returns-in-2 c = search (kind_is, rules)
 
-pub returns-then-kind-eq-ACQUIRE : goal.returns-then-kind-eq-ACQUIRE
+pub returns-in-3 : goal.returns-in-3
 unfolding kind_word
-returns-then-kind-eq-ACQUIRE c = search (kind_is, rules)
+returns-in-3 c = search (kind_is, rules)
 
-pub returns-then-kind-eq-RELEASE : goal.returns-then-kind-eq-RELEASE
+pub returns-in-4 : goal.returns-in-4
 unfolding kind_word
-returns-then-kind-eq-RELEASE c = search (kind_is, rules)
+returns-in-4 c = search (kind_is, rules)
 
-pub returns-then-kind-eq-FORK : goal.returns-then-kind-eq-FORK
+pub returns-in-5 : goal.returns-in-5
 unfolding kind_word
-returns-then-kind-eq-FORK c = search (kind_is, rules)
+returns-in-5 c = search (kind_is, rules)
 
-pub returns : goal.returns
+pub returns-in_default : goal.returns-in_default
 unfolding kind_word
-returns c = search (kind_last, rules)
+returns-in_default c = search (kind_last, rules)
