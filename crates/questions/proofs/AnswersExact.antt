@@ -7,6 +7,7 @@ use mathlib.Core.Logic.{◌↔◌}
 use mathlib.Core.Option.{Option, none, some}
 use mathlib.Core.List.{List, [], ◌∷◌}
 use lib.ListN.{length}
+use Rattle.std.specs.Prelude.{Some, Result, Ok}
 use lib.Dec.{eqb}
 use borrow.Author.Tests.{eqb-true, eqb-false, eq-eqb, ne_eqb}
 use Rattle.model.proofs.Tests.{by_cases}
@@ -16,19 +17,27 @@ use Rattle.format.specs.Layout.{preamble}
 use Rattle.judging.specs.Judged.{events_of, refusal_of}
 use Rattle.judging.proofs.FileLaws.{file_asked}
 use Rattle.observing.proofs.ObservingExact.{observed_in_exactly}
-use Rattle.questions.specs.Answers.{Judges, answer_judge, Observes, answer_observed}
+use Rattle.observing.specs.Observing.{observed_in}
+use Rattle.model.specs.Trace.{Trace}
+use Rattle.questions.specs.Answers.{Judges, answer_judge, ObservedAs, observed_as, Observes, answer_observed}
 use Rattle.questions.specs.Note.{Slice, Part, front, NoteOf, own-note, lent_note, Notes, standing, noted_in, answer_noted, answer_note}
-use Rattle.questions.specs.declared.Judgement.{Judgement}
-use Rattle.questions.specs.declared.Noted.TheVariants.{InFile}
+use Rattle.questions.specs.declared.Counts.{Counts}
 use Rattle.observing.specs.declared.Observed.{Observed}
 
-pub judge_exactly : (s : List ℕ) (j : Judgement) → (answer_judge s ≡ j) ↔ Judges s j
+pub judge_exactly : (s : List ℕ) (j : Result Counts Refusal) → (answer_judge s ≡ j) ↔ Judges s j
 unfolding answer_judge
 judge_exactly s j = file_asked s (λ g x. Iff.rfl) j
 
-pub observed_exactly : (s : List ℕ) (k : ℕ) (o : Observed) → (answer_observed s k ≡ o) ↔ Observes s k o
+module _ (t : Trace) (k : ℕ) where
+  seen : (o : Result Observed Refusal) → Ok (observed_in t k) ≡ o → ObservedAs t k o
+  seen o e = rw e at (observed_as ((observed_in_exactly t k (observed_in t k)).0 refl))
+
+  told : (o : Result Observed Refusal) → ObservedAs t k o → Ok (observed_in t k) ≡ o
+  told o (observed_as {o = x} p) = ap Ok ((observed_in_exactly t k x).1 p)
+
+pub observed_exactly : (s : List ℕ) (k : ℕ) (o : Result Observed Refusal) → (answer_observed s k ≡ o) ↔ Observes s k o
 unfolding answer_observed
-observed_exactly s k o = file_asked s (λ g. observed_in_exactly (events_of s) k) o
+observed_exactly s k o = file_asked s (λ g x. (seen (events_of s) k x, told (events_of s) k x)) o
 
 -- ---- question 6
 
@@ -52,7 +61,7 @@ module _ (file operator : Slice) where
   returned p (own-note n) = rw (ne_eqb (length (preamble file.now)) 0 (λ z. n (no_bytes (preamble file.now) z)))
   returned p (lent_note e) = rw (eq-eqb (length (preamble file.now)) 0 (ap length e))
 
-  by_refusal : (o : Option Refusal) → standing file operator (settled (λ r. InFile 0) (noted_in file.now) o) ≡ settled (λ r. front 0 file) note_of o
+  by_refusal : (o : Option Refusal) → standing file operator (settled (λ r. Some 0) (noted_in file.now) o) ≡ settled (λ r. front 0 file) note_of o
   by_refusal none = refl
   by_refusal (some r) = refl
 

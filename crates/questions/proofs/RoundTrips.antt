@@ -25,8 +25,8 @@ use Rattle.writing.proofs.WritesAgain.{writes_again, plain_today}
 use Rattle.writing.specs.Writing.{file_from, wrote, writer_rows, Writes, answer_write}
 use Rattle.writing.proofs.WriteLaws.{refused_no_bytes}
 use Rattle.writing.proofs.WrittenExact.{write_exactly}
-use Rattle.writing.specs.declared.Written.{Written}
-use Rattle.writing.specs.declared.Written.TheVariants.{Bytes}
+use Rattle.std.specs.Prelude.{Result, Ok}
+use Rattle.limits.specs.declared.Refusal.{Refusal}
 use Rattle.questions.specs.Answers.{answer_judge}
 use Rattle.questions.specs.RoundTrips.{AnswersFor, WhatIsWritten, WhatIsRead}
 
@@ -50,34 +50,34 @@ module _ (p : List ℕ) (t : Trace) (g : IsGoodFile (file_with p t)) where
   }
 
 module _ (p cs ds xs buffer : List ℕ) (n : ℕ) (after : List ℕ) where
-  front_is : {w : Written × List ℕ} → Writes p cs ds xs buffer w → w ≡ (Bytes n, after) → AnswersFor (take n after) p (trace_from cs ds xs)
-  front_is (refuses {r} f) e = absurd (refused_no_bytes r n (ap (λ (x : Written × List ℕ). x.0) e))
+  front_is : {w : Result ℕ Refusal × List ℕ} → Writes p cs ds xs buffer w → w ≡ (Ok n, after) → AnswersFor (take n after) p (trace_from cs ds xs)
+  front_is (refuses {r} f) e = absurd (refused_no_bytes r n (ap (λ (x : Result ℕ Refusal × List ℕ). x.0) e))
   front_is (answers q f) e =
       let s = file_from p cs ds xs in
       let g = (quiet_file s).0 (both_quiet (rows_of_file s) _ q.1).0 in
-      let w : wrote s buffer ≡ (Bytes n, after) = f ∙ e in
-      let c : Bytes (length s) ≡ Bytes n = ap (λ (x : Written × List ℕ). x.0) w in
+      let w : wrote s buffer ≡ (Ok n, after) = f ∙ e in
+      let c = ap (λ (x : Result ℕ Refusal × List ℕ). x.0) w in
       let a : length s ≡ n = cc in
-      let b : in_front s buffer ≡ after = ap (λ (x : Written × List ℕ). x.1) w in
+      let b : in_front s buffer ≡ after = ap (λ (x : Result ℕ Refusal × List ℕ). x.1) w in
       let d : take n after ≡ s = rw (← a, ← b) (front_taken s buffer) in
       rw d (answers_for p (trace_from cs ds xs) g)
 
-  few_bytes : {w : Written × List ℕ} → Writes p cs ds xs buffer w → w ≡ (Bytes n, after) → n ≤ max_bytes
-  few_bytes (refuses {r} f) e = absurd (refused_no_bytes r n (ap (λ (x : Written × List ℕ). x.0) e))
+  few_bytes : {w : Result ℕ Refusal × List ℕ} → Writes p cs ds xs buffer w → w ≡ (Ok n, after) → n ≤ max_bytes
+  few_bytes (refuses {r} f) e = absurd (refused_no_bytes r n (ap (λ (x : Result ℕ Refusal × List ℕ). x.0) e))
   few_bytes (answers q f) e =
       let s = file_from p cs ds xs in
       let k = ((quiet_file s).0 (both_quiet (rows_of_file s) _ q.1).0).layout.sized.most in
-      let c : Bytes (length s) ≡ Bytes n = ap (λ (x : Written × List ℕ). x.0) (f ∙ e) in
+      let c = ap (λ (x : Result ℕ Refusal × List ℕ). x.0) (f ∙ e) in
       let a : length s ≡ n = cc in
       omega arith
 
   -- what is written is no longer than a file may be
-  pub written_short : (Bytes n, after) ≡ answer_write p cs ds xs buffer → n ≤ max_bytes
-  written_short e = few_bytes ((write_exactly p cs ds xs buffer (Bytes n, after)).0 (sym e)) refl
+  pub written_short : (Ok n, after) ≡ answer_write p cs ds xs buffer → n ≤ max_bytes
+  written_short e = few_bytes ((write_exactly p cs ds xs buffer (Ok n, after)).0 (sym e)) refl
 
 -- the first round trip
 pub what_is_written : WhatIsWritten
-what_is_written p cs ds xs buffer n after e = front_is p cs ds xs buffer n after ((write_exactly p cs ds xs buffer (Bytes n, after)).0 e) refl
+what_is_written p cs ds xs buffer n after e = front_is p cs ds xs buffer n after ((write_exactly p cs ds xs buffer (Ok n, after)).0 e) refl
 
 -- ---- what is read
 
@@ -92,4 +92,4 @@ what_is_read s bytes g buffer h =
       subst (λ (x : List ℕ). Quiet (rows_of_file x ++ (row 10 nothing (length buffer < length x) ∷ []))) (sym d)
           (quiet_both (rows_of_file s) (row 10 nothing (length buffer < length s) ∷ []) ((quiet_file s).1 g) ((λ l. omega arith), tt)),
     ) in
-    (write_exactly (preamble s) (thread_list t) (kind_list t) (object_list t) buffer (Bytes (length s), in_front s buffer)).1 (answers q (ap (λ (x : List ℕ). wrote x buffer) d))
+    (write_exactly (preamble s) (thread_list t) (kind_list t) (object_list t) buffer (Ok (length s), in_front s buffer)).1 (answers q (ap (λ (x : List ℕ). wrote x buffer) d))

@@ -20,12 +20,18 @@ use Rattle.races.specs.Witness.{list_with}
 use Rattle.verdicts.specs.Verdict.{cleared, finding}
 use Rattle.questions.specs.Verdicts.{verdict_rows, Verdict, answer_verdict, reordering_rows, check_yes, answer_check}
 use Rattle.questions.specs.AnswersStayTrue.{Extends, verdict_on, list_after, NotRefused, SameAnswer, DemandThree}
-use Rattle.verdicts.specs.declared.Finding.{Finding}
-use Rattle.verdicts.specs.declared.Finding.TheVariants.{Refused, Reported}
-use Rattle.checking.specs.declared.Check.TheVariants.{Yes}
+use Rattle.std.specs.Prelude.{Option as RustOption, None, Some, Result, Ok}
+use Rattle.limits.specs.declared.Refusal.{Refusal}
 use Rattle.questions.proofs.VerdictsExact.{surely_conflicting, told, verdict_exactly, check_reordering_exactly}
 
-reported-length : (o : Option (List ℕ)) (n : ℕ) → finding o ≡ Reported n → (ρ : List ℕ) × (o ≡ some ρ) × (n ≡ length ρ)
+-- an answer of question 3
+abbrev Answer : Type 0
+Answer = Result (RustOption ℕ) Refusal
+
+abbrev found : Option (List ℕ) → Answer
+found o = Ok (finding o)
+
+reported-length : (o : Option (List ℕ)) (n : ℕ) → found o ≡ Ok (Some n) → (ρ : List ℕ) × (o ≡ some ρ) × (n ≡ length ρ)
 reported-length none n e = let z : ◌≡◌ {A = ℕ} 0 1 = cc in absurd (omega arith)
 reported-length (some ρ) n e = (ρ, refl, cc)
 
@@ -33,10 +39,10 @@ reported-length (some ρ) n e = (ρ, refl, cc)
 record VerdictAsked (s : List ℕ) (a b : ℕ) (list area : List ℕ) : Type 0 where
   file : IsGoodFile s
   conflicting : Conflicting (events_of s) a b
-  is : answer_verdict s a b list area ≡ (finding (witness (events_of s) a b), list_with (witness (events_of s) a b) list, cleared area)
+  is : answer_verdict s a b list area ≡ (found (witness (events_of s) a b), list_with (witness (events_of s) a b) list, cleared area)
 
 module _ (s : List ℕ) (a b : ℕ) (list area : List ℕ) where
-  by_answer : {x : Finding × List ℕ × List ℕ} → Verdict s a b list area x → answer_verdict s a b list area ≡ x → NotRefused x.0 → VerdictAsked s a b list area
+  by_answer : {x : Answer × List ℕ × List ℕ} → Verdict s a b list area x → answer_verdict s a b list area ≡ x → NotRefused x.0 → VerdictAsked s a b list area
   by_answer (refuses {r} f) e n = absurd (n r refl)
   by_answer (answers q m) e n =
       let p = both_quiet (rows_of_file s) (verdict_rows (events_of s) a b list area) q in
@@ -48,12 +54,12 @@ module _ (s : List ℕ) (a b : ℕ) (list area : List ℕ) where
   asked n = by_answer ((verdict_exactly s a b list area (answer_verdict s a b list area)).0 refl) refl n
 
   module _ (q : VerdictAsked s a b list area) where
-    finding_is : (o : Option (List ℕ)) → witness (events_of s) a b ≡ o → verdict_on s a b list area ≡ finding o
-    finding_is o w = ap (λ (x : Finding × List ℕ × List ℕ). x.0) q.is ∙ ap finding w
+    finding_is : (o : Option (List ℕ)) → witness (events_of s) a b ≡ o → verdict_on s a b list area ≡ found o
+    finding_is o w = ap (λ (x : Answer × List ℕ × List ℕ). x.0) q.is ∙ ap found w
 
     front_is : (ρ : List ℕ) → witness (events_of s) a b ≡ some ρ → take (length ρ) (list_after s a b list area) ≡ ρ
     front_is ρ w =
-        ap (λ (x : Finding × List ℕ × List ℕ). take (length ρ) x.1) q.is ∙ ap (λ (o : Option (List ℕ)). take (length ρ) (list_with o list)) w ∙ front_taken ρ list
+        ap (λ (x : Answer × List ℕ × List ℕ). take (length ρ) x.1) q.is ∙ ap (λ (o : Option (List ℕ)). take (length ρ) (list_with o list)) w ∙ front_taken ρ list
 
   -- a reported pair: its witness, in front of the lent list
   record Shows (n : ℕ) : Type 0 where
@@ -63,10 +69,10 @@ module _ (s : List ℕ) (a b : ℕ) (list area : List ℕ) where
     long : n ≡ length ρ
     front : take n (list_after s a b list area) ≡ ρ
 
-  reported_refused : (n : ℕ) → verdict_on s a b list area ≡ Reported n → NotRefused (verdict_on s a b list area)
-  reported_refused n e r f = let d : Reported n ≡ Refused r = sym e ∙ f in let z : ◌≡◌ {A = ℕ} 0 1 = cc in omega arith
+  reported_refused : (n : ℕ) → verdict_on s a b list area ≡ Ok (Some n) → NotRefused (verdict_on s a b list area)
+  reported_refused n e r f = let d = sym e ∙ f in let z : ◌≡◌ {A = ℕ} 0 1 = cc in omega arith
 
-  shows : (n : ℕ) → verdict_on s a b list area ≡ Reported n → Shows n
+  shows : (n : ℕ) → verdict_on s a b list area ≡ Ok (Some n) → Shows n
   shows n e =
       let q = asked (reported_refused n e) in
       let x = reported-length (witness (events_of s) a b) n (sym (finding_is q (witness (events_of s) a b) refl) ∙ e) in
@@ -91,12 +97,12 @@ module _ (s s' : List ℕ) (ext : Extends s s') (a b : ℕ) (list area list' are
             ap (λ (k : ℕ). take k (list_after s' a b list' area')) y.long ∙ front_is s' a b list' area' q' y.ρ (w ∙ y.is) ∙ sym y.front;
       }
 
-  yes : (n : ℕ) → verdict_on s a b list area ≡ Reported n → answer_check s' a b (take n (list_after s a b list area)) ≡ Yes
+  yes : (n : ℕ) → verdict_on s a b list area ≡ Ok (Some n) → answer_check s' a b (take n (list_after s a b list area)) ≡ Ok None
   yes n e =
       let y = shows s a b list area n e in
       let q = y.asked_of in
       let c = extended_conflicting (events_of s) (events_of s') ext.extension a b q.conflicting in
-      rw y.front ((check_reordering_exactly s' a b y.ρ Yes).1
+      rw y.front ((check_reordering_exactly s' a b y.ρ (Ok None)).1
       (answers (quiet_both (rows_of_file s') (reordering_rows (events_of s') a b) ((quiet_file s').1 ext.file) ((λ n. n c), tt)) (check_yes ((stays q).answer_stays y.ρ y.is).0)))
 
 pub answers_stay_true : DemandThree

@@ -1,7 +1,6 @@
 -- Each answer to questions 3, 4 and 5 is given exactly in its case.
-use Prim.Native.Nat.{ℕ, zero, suc}
-use native.Mathlib.Omega.{arith}
-use mathlib.Core.Path.{◌≡◌, refl, sym, ◌∙◌}
+use Prim.Native.Nat.{ℕ}
+use mathlib.Core.Path.{◌≡◌, refl, sym, ◌∙◌, ap}
 use mathlib.Core.Logic.{◌↔◌}
 use mathlib.Core.Bool.{true, not}
 use mathlib.Core.Option.{Option, none, some, none-ne-some}
@@ -25,13 +24,15 @@ use Rattle.judging.proofs.FileLaws.{question_asked}
 use Rattle.races.specs.Witness.{list_with}
 use Rattle.verdicts.specs.Verdict.{cleared, verdict_tests, finding, verdict_in}
 use Rattle.verdicts.specs.Next.{next, next_in}
-use Rattle.checking.specs.Checking.{checked, check_in}
-use Rattle.checking.proofs.CheckLaws.{no_with}
+use Rattle.checking.specs.Checking.{check_in}
+use Rattle.checking.proofs.FaultLaws.{checked_exactly}
 use Rattle.judging.specs.Judged.{events_of}
 use Rattle.questions.specs.Verdicts.{verdict_rows, VerdictOf, reported, not-reported, Verdict, answer_verdict, next_rows, NextOf, next-race, no_race, NextAfter, answer_next, reordering_rows, CheckOf, check_yes, check_no, Checks, answer_check}
-use Rattle.verdicts.specs.declared.Finding.{Finding}
-use Rattle.verdicts.specs.declared.Next.{Next}
-use Rattle.checking.specs.declared.Check.{Check}
+use Rattle.std.specs.Prelude.{Option as RustOption, None, Some, Result, Ok}
+use Rattle.limits.specs.declared.Refusal.{Refusal}
+use Rattle.verdicts.specs.declared.Pair.{Pair}
+use Rattle.checking.specs.Faults.{number_of, checked}
+use Rattle.checking.specs.declared.Fault.{Fault}
 
 -- ---- on events
 
@@ -47,7 +48,7 @@ module _ (t : Trace) (a b : ℕ) where
     verdict_tested = (conflicting_tested, ((ltb-true (length list) (length t), lt-ltb (length list) (length t)), (area_short (length area), tt)))
 
     module _ (w : WellFormed t) (c : Conflicting t a b) where
-      given : (o : Option (List ℕ)) → witness t a b ≡ o → VerdictOf t a b list area (finding o, list_with o list, cleared area)
+      given : (o : Option (List ℕ)) → witness t a b ≡ o → VerdictOf t a b list area (Ok (finding o), list_with o list, cleared area)
       given (some ρ) e = reported ((witness_exactly t w a b c ρ).0 e)
       given none e = not-reported (λ p. let x = (reported-answered t w a b c).0 p in none-ne-some _ (sym e ∙ x.1))
 
@@ -55,32 +56,32 @@ module _ (t : Trace) (a b : ℕ) where
       no-witness n none e = refl
       no-witness n (some ρ) e = absurd (n ((reported-answered t w a b c).1 (ρ, e)))
 
-      pub told : (x : Finding × List ℕ × List ℕ) → VerdictOf t a b list area x → (finding (witness t a b), list_with (witness t a b) list, cleared area) ≡ x
+      pub told : (x : Result (RustOption ℕ) Refusal × List ℕ × List ℕ) → VerdictOf t a b list area x → (Ok (finding (witness t a b)), list_with (witness t a b) list, cleared area) ≡ x
       told x (reported {ρ} p) = rw ((witness_exactly t w a b c ρ).1 p)
       told x (not-reported n) = rw (no-witness n (witness t a b) refl)
 
   module _ (w : WellFormed t) (area : List ℕ) where
-    next-given : (o : Option Race) → next_race t a b ≡ o → NextOf t a b area (next o, cleared area)
+    next-given : (o : Option Race) → next_race t a b ≡ o → NextOf t a b area (Ok (next o), cleared area)
     next-given none e = no_race ((next-none t w a b).0 e)
     next-given (some x) e = next-race ((next_exactly t w a b x).0 e)
 
-    next-told : (x : Next × List ℕ) → NextOf t a b area x → (next (next_race t a b), cleared area) ≡ x
+    next-told : (x : Result (RustOption Pair) Refusal × List ℕ) → NextOf t a b area x → (Ok (next (next_race t a b)), cleared area) ≡ x
     next-told x (next-race {x = y} f) = rw ((next_exactly t w a b y).1 f)
     next-told x (no_race f) = rw ((next-none t w a b).1 f)
 
   module _ (list : List ℕ) where
-    check-given : (n : ℕ) → check t a b list ≡ n → CheckOf t a b list (checked n)
-    check-given zero e = check_yes ((yes_exactly t a b list).0 e)
-    check-given (suc n) e = check_no {n = suc n} (λ z. omega arith) ((check_exactly t a b list (suc n)).0 e)
+    check-given : (o : RustOption Fault) → checked (check t a b list) ≡ o → CheckOf t a b list (Ok o)
+    check-given None e = check_yes ((yes_exactly t a b list).0 ((checked_exactly t a b list None).0 e))
+    check-given (Some f) e = check_no ((check_exactly t a b list (number_of f)).0 ((checked_exactly t a b list (Some f)).0 e))
 
-    check-told : (x : Check) → CheckOf t a b list x → checked (check t a b list) ≡ x
-    check-told x (check_yes y) = rw ((yes_exactly t a b list).1 y)
-    check-told x (check_no {n} ne f) = rw ((check_exactly t a b list n).1 f) (sym (no_with n ne))
+    check-told : (x : Result (RustOption Fault) Refusal) → CheckOf t a b list x → Ok (checked (check t a b list)) ≡ x
+    check-told x (check_yes y) = ap Ok ((checked_exactly t a b list None).1 ((yes_exactly t a b list).1 y))
+    check-told x (check_no {f} y) = ap Ok ((checked_exactly t a b list (Some f)).1 ((check_exactly t a b list (number_of f)).1 y))
 
 -- ---- on a file's bytes
 
 module _ (s : List ℕ) (a b : ℕ) where
-  pub verdict_exactly : (list area : List ℕ) (x : Finding × List ℕ × List ℕ) → (answer_verdict s a b list area ≡ x) ↔ Verdict s a b list area x
+  pub verdict_exactly : (list area : List ℕ) (x : Result (RustOption ℕ) Refusal × List ℕ × List ℕ) → (answer_verdict s a b list area ≡ x) ↔ Verdict s a b list area x
   unfolding answer_verdict verdict_in
   verdict_exactly list area x =
       let t = events_of s in
@@ -89,16 +90,16 @@ module _ (s : List ℕ) (a b : ℕ) where
       let c = surely_conflicting t a b q.0 in
       ((λ e. rw e at (given t a b list area g.good.well_formed c (witness t a b) refl)), told t a b list area g.good.well_formed c y)) x
 
-  pub next-race_exactly : (area : List ℕ) (x : Next × List ℕ) → (answer_next s a b area ≡ x) ↔ NextAfter s a b area x
+  pub next-race_exactly : (area : List ℕ) (x : Result (RustOption Pair) Refusal × List ℕ) → (answer_next s a b area ≡ x) ↔ NextAfter s a b area x
   unfolding answer_next next_in
   next-race_exactly area x =
       let t = events_of s in
       question_asked s (next_rows area) (not (is_area_size (length area)) ∷ []) (AreaShort ∷ []) (area_short (length area), tt) refl
       (λ g q y. ((λ e. rw e at (next-given t a b g.good.well_formed area (next_race t a b) refl)), next-told t a b g.good.well_formed area y)) x
 
-  pub check_reordering_exactly : (list : List ℕ) (x : Check) → (answer_check s a b list ≡ x) ↔ Checks s a b list x
+  pub check_reordering_exactly : (list : List ℕ) (x : Result (RustOption Fault) Refusal) → (answer_check s a b list ≡ x) ↔ Checks s a b list x
   unfolding answer_check check_in
   check_reordering_exactly list x =
       let t = events_of s in
       question_asked s (reordering_rows t a b) (not (is_conflicting t a b) ∷ []) (NotConflicting ∷ []) (conflicting_tested t a b, tt) refl
-      (λ g q y. ((λ e. rw e at (check-given t a b list (check t a b list) refl)), check-told t a b list y)) x
+      (λ g q y. ((λ e. rw e at (check-given t a b list (checked (check t a b list)) refl)), check-told t a b list y)) x

@@ -1,11 +1,9 @@
 -- Question 6. The note is a part of one of the two lent slices.
-use Rattle.std.specs.Prelude.{ℕ, ◌≡◌, ◌≢◌, cond, List, [], length, take, eqb}
+use Rattle.std.specs.Prelude.{ℕ, ◌≡◌, ◌≢◌, cond, List, [], length, take, eqb, Option, Some, None}
 use Rattle.std.specs.Borrow.{Bor}
 use Rattle.format.specs.Layout.{start, preamble}
 use Rattle.limits.specs.Refusals.{Asked, settled}
 use Rattle.judging.specs.Judged.{refusal_of, rows_of_file}
-use Rattle.questions.specs.declared.Noted.{Noted}
-use Rattle.questions.specs.declared.Noted.TheVariants.{InFile, Operators}
 
 -- a lent slice of bytes: where it begins in memory (ref_ptr), and its bytes (now)
 abbrev pub Slice : Type 0
@@ -38,17 +36,17 @@ Notes file operator p = Asked (rows_of_file file.now) (λ r. front 0 file) (Note
 
 -- ---- computed
 
--- the part at which a note stands
-abbrev pub standing : Slice → Slice → Noted → Part
-standing file operator (InFile m) = front m file
-standing file operator Operators = whole operator
+-- the part at which a note stands: the first so many bytes of the file, or the operator's own
+abbrev pub standing : Slice → Slice → Option ℕ → Part
+standing file operator (Some m) = front m file
+standing file operator None = whole operator
 
 -- where the note of a good file with these bytes stands
-abbrev pub noted_in : List ℕ → Noted
-noted_in s = cond (eqb (length (preamble s)) 0) Operators (InFile (start s))
+abbrev pub noted_in : List ℕ → Option ℕ
+noted_in s = cond (eqb (length (preamble s)) 0) None (Some (start s))
 
-unfoldable pub answer_noted : List ℕ → Noted
-answer_noted s = settled (λ r. InFile 0) (noted_in s) (refusal_of s)
+unfoldable pub answer_noted : List ℕ → Option ℕ
+answer_noted s = settled (λ r. Some 0) (noted_in s) (refusal_of s)
 
 unfoldable pub answer_note : Slice → Slice → Part
 answer_note file operator = standing file operator (answer_noted file.now)

@@ -4,16 +4,16 @@ use Rattle.questions.proofs.AnswerLaws.{refused_check, good-check}
 use Rattle.questions.proofs.check_reordering.Goals as goal
 
 pub slice_bounds-rows-end : goal.slice_bounds-rows-end
-slice_bounds-rows-end c = search (opened_within, rules)
+slice_bounds-rows-end c = search (opened_within, c.in_ok-n.ensures, rules)
 
 pub slice_bounds-check_in-end : goal.slice_bounds-check_in-end
-slice_bounds-check_in-end c = search (opened_long, rules)
+slice_bounds-check_in-end c = search (opened_long, c.in_ok-n.ensures, rules)
 
 pub check_in-requires : goal.check_in-requires
-check_in-requires c = search (opened_linked, rules)
+check_in-requires c = search (opened_linked, c.in_ok-n.ensures, rules)
 
-pub returns-in-Refused : goal.returns-in-Refused
-returns-in-Refused c = search (refused_check, rules)
+pub returns-in_err-n : goal.returns-in_err-n
+returns-in_err-n c = search (refused_check, c.in_err-n.ensures, rules)
 
-pub returns-in-Words : goal.returns-in-Words
-returns-in-Words c = search (good-check, rules)
+pub returns : goal.returns
+returns c = search (good-check, c.in_ok-n.ensures, rules)

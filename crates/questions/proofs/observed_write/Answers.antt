@@ -4,16 +4,16 @@ use Rattle.questions.proofs.AnswerLaws.{refused_observed, good-observed}
 use Rattle.questions.proofs.observed_write.Goals as goal
 
 pub slice_bounds-rows-end : goal.slice_bounds-rows-end
-slice_bounds-rows-end c = search (opened_within, rules)
+slice_bounds-rows-end c = search (opened_within, c.in_ok-n.ensures, rules)
 
 pub slice_bounds-observed_in-end : goal.slice_bounds-observed_in-end
-slice_bounds-observed_in-end c = search (opened_long, rules)
+slice_bounds-observed_in-end c = search (opened_long, c.in_ok-n.ensures, rules)
 
 pub observed_in-requires : goal.observed_in-requires
-observed_in-requires c = search (opened_linked, rules)
+observed_in-requires c = search (opened_linked, c.in_ok-n.ensures, rules)
 
-pub returns-in-Refused : goal.returns-in-Refused
-returns-in-Refused c = search (refused_observed, rules)
+pub returns-in_err-n : goal.returns-in_err-n
+returns-in_err-n c = search (refused_observed, c.in_err-n.ensures, rules)
 
-pub returns-in-Words : goal.returns-in-Words
-returns-in-Words c = search (good-observed, rules)
+pub returns : goal.returns
+returns c = search (good-observed, c.in_ok-n.ensures, rules)

@@ -4,16 +4,16 @@ use Rattle.questions.proofs.AnswerLaws.{refused_verdict, good_verdict}
 use Rattle.questions.proofs.verdict.Goals as goal
 
 pub slice_bounds-rows-end : goal.slice_bounds-rows-end
-slice_bounds-rows-end c = search (opened_within, rules)
+slice_bounds-rows-end c = search (opened_within, c.in_ok-n.ensures, rules)
 
 pub slice_bounds-verdict_in-end : goal.slice_bounds-verdict_in-end
-slice_bounds-verdict_in-end c = search (opened_long, rules)
+slice_bounds-verdict_in-end c = search (opened_long, c.in_ok-n.ensures, rules)
 
 pub verdict_in-requires : goal.verdict_in-requires
-verdict_in-requires c = search (opened_linked, rules)
+verdict_in-requires c = search (opened_linked, c.in_ok-n.ensures, rules)
 
-pub returns-in-Refused : goal.returns-in-Refused
-returns-in-Refused c = search (refused_verdict, rules)
+pub returns-in_err-n : goal.returns-in_err-n
+returns-in_err-n c = search (refused_verdict, c.in_err-n.ensures, rules)
 
-pub returns-in-Words : goal.returns-in-Words
-returns-in-Words c = search (good_verdict, rules)
+pub returns : goal.returns
+returns c = search (good_verdict, c.in_ok-n.ensures, rules)
