@@ -4,14 +4,14 @@ use native.Mathlib.Omega.{arith}
 use native.Mathlib.Numerals.{add-one}
 use mathlib.Core.Path.{◌≡◌, refl, sym, ◌∙◌, ap}
 use mathlib.Core.Logic.{◌≢◌}
-use mathlib.Core.Bool.{Bool, true, false, ◌&&◌, not}
+use mathlib.Core.Bool.{Bool, true, false, ◌&&◌}
 use mathlib.Core.List.{List, [], ◌∷◌, ◌++◌, reverse, reverse_aux, reverse-cons}
 use lib.ListN.{length, get_or, set, take, drop, length-set, drop_of_length-le}
 use lib.Seq.{take-suc-set, drop-cons, get_or-set_same, drop-set-lt}
 use lib.Dec.{eqb, leb}
 use mir.Syntax.{w16, w64}
 use mir.Val.{Fits}
-use borrow.Author.Tests.{eqb-true, eqb-false, leb-true, le-leb, not-true, not-false}
+use borrow.Author.Tests.{eqb-true, eqb-false, leb-true, le-leb}
 use Rattle.model.specs.Trace.{Trace, Valid, thread_of}
 use Rattle.model.specs.Lists.{up_to, before, keep, only, just, all_but}
 use Rattle.model.specs.Good.{Good, max_thread}
@@ -154,7 +154,7 @@ module _ {t : Trace} {m : ℕ} {tops : List ℕ} {k r : ℕ} {out : List ℕ} (p
   pub moved_end : k ≤ 0 → Moved t m tops r out
   moved_end h = let z : k ≡ 0 = omega arith in record { low = p.low; is = sym (only_under t (just m) tops ∙ p.is ∙ rw z) }
 
--- ---- `put`
+-- ---- an event more of the others
 
 module _ {t : Trace} {m : ℕ} {tops : List ℕ} {k r : ℕ} {out : List ℕ} (p : Putting t m tops k r out) (v : Valid t k) where
   pub put_room : r < length out
@@ -164,13 +164,13 @@ module _ {t : Trace} {m : ℕ} {tops : List ℕ} {k r : ℕ} {out : List ℕ} (p
   put_fits g = let a = v.bounded in let b = g.size in record { fits = omega arith }
 
   module _ (b : Bool) (eb : b ≡ is_of t (all_but m) tops k) where
-    pub put_not : not b ≡ true → Putting t m tops (k + 1) r out
+    pub put_not : b ≡ false → Putting t m tops (k + 1) r out
     put_not e =
         let a = v.bounded in
         let c = p.few in
-        record { room = p.room; low = omega arith; few = omega arith; is = p.is ∙ sym (next-not (is_of t (all_but m) tops) k v.positive (sym eb ∙ not-true b e)) }
+        record { room = p.room; low = omega arith; few = omega arith; is = p.is ∙ sym (next-not (is_of t (all_but m) tops) k v.positive (sym eb ∙ e)) }
 
-    pub put_one : not b ≡ false → Putting t m tops (k + 1) (r + 1) (set out r k)
+    pub put_one : b ≡ true → Putting t m tops (k + 1) (r + 1) (set out r k)
     put_one e =
         let a = v.bounded in
         let c = p.few in
@@ -180,7 +180,7 @@ module _ {t : Trace} {m : ℕ} {tops : List ℕ} {k r : ℕ} {out : List ℕ} (p
           room = rw (length-set out r k) room;
           low = omega arith;
           few = omega arith;
-          is = d ∙ ap (λ (l : List ℕ). l ++ (k ∷ [])) p.is ∙ sym (next_one (is_of t (all_but m) tops) k v.positive (sym eb ∙ not-false b e));
+          is = d ∙ ap (λ (l : List ℕ). l ++ (k ∷ [])) p.is ∙ sym (next_one (is_of t (all_but m) tops) k v.positive (sym eb ∙ e));
         }
 
 -- ---- `highest`

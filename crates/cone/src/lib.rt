@@ -10,7 +10,7 @@ ghost use Rattle.model.specs.Good.{Good, max_thread};
 ghost use Rattle.table.specs.Table.{trace};
 ghost use Rattle.cone.specs.Tops.{Rooted, Told, Beyond};
 ghost use Rattle.cone.specs.Following.{has_root, Bars, Within, Coming, Raising, Answer, Raised, BringsIn, Follows, Going, Caught, Round, Behind, IsRoot, BeforeRoot, Started, Seeded};
-ghost use Rattle.cone.specs.Split.{Splits, Moved, Others, is_of, Putting, Highest};
+ghost use Rattle.cone.specs.Split.{Splits, Moved, Others, is_of, Highest};
 
 use limits::Thread;
 use table::wide;
@@ -263,25 +263,6 @@ fn is_other(table: &[u16], m: u8, tops: &[u16; Thread::COUNT], k: usize) -> bool
     c != usize::from(m) && k <= place(tops, c)
 }
 
-// Puts event k, where it is such a one, at place r of out. Gives the next free place.
-fn put(
-    table: &[u16],
-    m: u8,
-    tops: &[u16; Thread::COUNT],
-    k: usize,
-    out: &mut [u16],
-    r: usize,
-) -> usize
-    requires { Good (trace table.now) × (Valid (trace table.now) k × Putting (trace table.now) m tops.now k r out.old) }
-    ensures { Putting (trace table.now) m tops.now (k + 1) result out.new × (length out.new ≡ length out.old) }
-{
-    if !is_other(table, m, tops, k) {
-        return r;
-    }
-    out[r] = k as u16;
-    r + 1
-}
-
 // The highest top.
 #[tactic(auto, using(crate::proofs::SplitLaws::highest_start, crate::proofs::SplitLaws::highest_more, crate::proofs::SplitLaws::highest_end))]
 fn highest(tops: &[u16; Thread::COUNT]) -> usize
@@ -301,7 +282,10 @@ pub fn others(table: &[u16], m: u8, tops: &[u16; Thread::COUNT], out: &mut [u16]
 {
     let mut r = 0;
     for k in 1..highest(tops) + 1 {
-        r = put(table, m, tops, k, out, r);
+        if is_other(table, m, tops, k) {
+            out[r] = k as u16;
+            r += 1;
+        }
     }
     r
 }

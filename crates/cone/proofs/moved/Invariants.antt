@@ -1,11 +1,9 @@
-use mathlib.Core.Path.{◌≡◌}
-use lib.ListN.{length}
 use Rattle.table.specs.Table.{trace}
 use Rattle.cone.proofs.SplitLaws.{Moving}
 use Rattle.cone.proofs.moved.Given as goal
 
 abbrev pub invariant-loop-k : goal.invariant-loop-k
-invariant-loop-k l = Moving (trace l.table) l.m l.tops l.k l.r l.out × (length l.out ≡ length l.initial.out)
+invariant-loop-k l = Moving (trace l.table) l.m l.tops l.k l.r l.out
 
 abbrev pub decreases-loop-k : goal.decreases-loop-k
 decreases-loop-k l = l.k

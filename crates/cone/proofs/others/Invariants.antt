@@ -1,8 +1,6 @@
-use mathlib.Core.Path.{◌≡◌}
-use lib.ListN.{length}
 use Rattle.table.specs.Table.{trace}
 use Rattle.cone.specs.Split.{Putting}
 use Rattle.cone.proofs.others.Given as goal
 
 abbrev pub invariant-loop-k : goal.invariant-loop-k
-invariant-loop-k l = Putting (trace l.table) l.m l.tops l.k l.r l.out × (length l.out ≡ length l.initial.out)
+invariant-loop-k l = Putting (trace l.table) l.m l.tops l.k l.r l.out
