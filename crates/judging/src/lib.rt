@@ -29,6 +29,7 @@ pub struct Hold {
 }
 
 // Is event k a fork or join of its own thread, or a second fork of one thread?
+#[tactic(auto, unfolding(decision::specs::Refusals::is_self, decision::specs::Refusals::is_second))]
 fn self_or_second(ev: &[u8], k: usize, threads: Threads) -> bool
     requires { Valid (trace_in ev.now) k × ThreadSets (trace_in ev.now) (before k) threads }
     ensures { result ≡ (is_self (trace_in ev.now) k || is_second (trace_in ev.now) k) }
@@ -60,52 +61,41 @@ fn already_joined(ev: &[u8], k: usize, threads: Threads) -> bool
 }
 
 // The sets after event k too: its thread has an event; what it forks is forked, what it joins is joined.
+#[tactic(auto, using(crate::proofs::ThreadLaws::added), unfolding(decision::specs::Refusals::is_begun, decision::specs::Refusals::is_forked, decision::specs::Refusals::is_joined, model::specs::Trace::does, model::specs::Lists::just))]
 fn with_event(ev: &[u8], k: usize, threads: Threads) -> Threads
     requires { Valid (trace_in ev.now) k × ThreadSets (trace_in ev.now) (before k) threads × InLimits (trace_in ev.now) k }
     ensures { ThreadSets (trace_in ev.now) (k ∷ before k) result }
 {
     let e = format::event_at(ev, k);
-    let thread = e.thread;
-    let begun = bits::include(threads.begun, thread.number);
+    let begun = bits::include(threads.begun, e.thread.number);
     if e.kind == Event::FORK {
         return Threads {
             begun,
             forked: bits::include(threads.forked, e.object as u8),
-            joined: threads.joined,
+            ..threads
         };
     }
     if e.kind == Event::JOIN {
         return Threads {
             begun,
-            forked: threads.forked,
             joined: bits::include(threads.joined, e.object as u8),
+            ..threads
         };
     }
-    Threads {
-        begun,
-        forked: threads.forked,
-        joined: threads.joined,
-    }
+    Threads { begun, ..threads }
 }
 
 // What event k, where refusals 5 to 7 and 15 to 17 have no case, does to its lock after those before it. Refusals 8 and 9.
-// (Both tables are lent from one struct, so for one lifetime.)
-fn lock_effect<'a>(
-    ev: &[u8],
-    k: usize,
-    holder: &'a [u8; Event::OBJECTS],
-    depth: &'a [u16; Event::OBJECTS],
-) -> Result<Option<Hold>, Refusal>
-    requires { Ready (trace_in ev.now) k holder.now depth.now × InLimits (trace_in ev.now) k × InPlace (trace_in ev.now) k }
+#[tactic(auto, using(crate::proofs::EffectLaws::for_lock_alone), unfolding(crate::specs::Walk::effect_of, decision::specs::Refusals::event_tests, decision::specs::Check::is_free, model::specs::Trace::does))]
+fn lock_effect(ev: &[u8], k: usize, locks: &Locks) -> Result<Option<Hold>, Refusal>
+    requires { Ready (trace_in ev.now) k locks.now.holder locks.now.depth × InLimits (trace_in ev.now) k × InPlace (trace_in ev.now) k }
     ensures { result ≡ effect_of (trace_in ev.now) k }
 {
     let e = format::event_at(ev, k);
     let number = k as u16;
-    let thread = e.thread;
-    let own = thread.number + 1;
-    let object = e.object;
-    let held = holder[object];
-    let deep = depth[object];
+    let own = e.thread.number + 1;
+    let held = locks.holder[e.object];
+    let deep = locks.depth[e.object];
     if e.kind == Event::ACQUIRE {
         // its holder may acquire it again, one level deeper
         if held == 0 || held == own {
@@ -136,14 +126,14 @@ fn lock_effect<'a>(
 }
 
 // What event k, whose kind, thread and object are within their limits, does after those before it. Refusals 15 to 17, then 8 and 9.
-fn thread_effect<'a>(
+#[tactic(auto, unfolding(crate::specs::Walk::effect_of, crate::specs::Judged::event_refusal, decision::specs::Refusals::event_tests))]
+fn thread_effect(
     ev: &[u8],
     k: usize,
     threads: Threads,
-    holder: &'a [u8; Event::OBJECTS],
-    depth: &'a [u16; Event::OBJECTS],
+    locks: &Locks,
 ) -> Result<Option<Hold>, Refusal>
-    requires ready { Ready (trace_in ev.now) k holder.now depth.now }
+    requires ready { Ready (trace_in ev.now) k locks.now.holder locks.now.depth }
     requires thread_sets { ThreadSets (trace_in ev.now) (before k) threads × InLimits (trace_in ev.now) k }
     ensures { result ≡ effect_of (trace_in ev.now) k }
 {
@@ -157,18 +147,13 @@ fn thread_effect<'a>(
     if already_joined(ev, k, threads) {
         return Err(Refusal::AlreadyJoined(number));
     }
-    lock_effect(ev, k, holder, depth)
+    lock_effect(ev, k, locks)
 }
 
 // What event k does after those before it. Refusals 5 to 7, 15 to 17, 8 and 9, in this order.
-fn effect_at<'a>(
-    ev: &[u8],
-    k: usize,
-    threads: Threads,
-    holder: &'a [u8; Event::OBJECTS],
-    depth: &'a [u16; Event::OBJECTS],
-) -> Result<Option<Hold>, Refusal>
-    requires ready { Ready (trace_in ev.now) k holder.now depth.now }
+#[tactic(auto, unfolding(crate::specs::Walk::effect_of, crate::specs::Judged::event_refusal, decision::specs::Refusals::event_tests))]
+fn effect_at(ev: &[u8], k: usize, threads: Threads, locks: &Locks) -> Result<Option<Hold>, Refusal>
+    requires ready { Ready (trace_in ev.now) k locks.now.holder locks.now.depth }
     requires thread_sets { ThreadSets (trace_in ev.now) (before k) threads }
     ensures { result ≡ effect_of (trace_in ev.now) k }
 {
@@ -177,14 +162,13 @@ fn effect_at<'a>(
     if !e.kind_known() {
         return Err(Refusal::Kind(number));
     }
-    let thread = e.thread;
-    if !thread.in_limit() {
+    if !e.thread.in_limit() {
         return Err(Refusal::Thread(number));
     }
     if !e.object_in_limit() {
         return Err(Refusal::Object(number));
     }
-    thread_effect(ev, k, threads, holder, depth)
+    thread_effect(ev, k, threads, locks)
 }
 
 // Refusals 5 to 7, 15 to 17, 8 and 9, event by event, of a file that has been read.
@@ -200,7 +184,7 @@ fn judge_events(file: &[u8], t: Recording) -> Result<Recording, Refusal>
         joined: 0,
     };
     for k in 1..format::count(ev) + 1 {
-        let effect = effect_at(ev, k, threads, &locks.holder, &locks.depth)?;
+        let effect = effect_at(ev, k, threads, &locks)?;
         if let Some(hold) = effect {
             let object = format::object_at(ev, k);
             locks.holder[object] = hold.holder;
