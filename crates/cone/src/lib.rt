@@ -15,7 +15,7 @@ ghost use Rattle.cone.specs.Split.{Splits, Moved, Others, is_of, Highest};
 use limits::Thread;
 use table::wide;
 
-// The bar of a thread that no root is of: no event reaches it.
+// The bar of a thread that no root is of: no event reaches it. It is a number and no `Option`, so that one comparison tells whether an event reaches a bar.
 const NO_ROOT: u16 = 65535;
 
 // The number that a list by thread has for thread c.
@@ -62,7 +62,7 @@ impl Search<'_> {
         self.bars[c] != NO_ROOT
     }
 
-    // Event k, if it is one, is in the cone: the top of its thread is no lower.
+    // Event k, if it is one, is in the cone: the top of its thread is no lower. A link of the table is 0 where there is no event.
     fn raise(&self, k: usize, tops: &mut [u16; Thread::COUNT]) -> Result<(), RootInside>
         requires { Raising self.now.table.now self.now.bars tops.old × Coming (trace self.now.table.now) self.now.bars k }
         ensures { Answer (trace self.now.table.now) self.now.bars (Raised (trace self.now.table.now) self.now.bars k tops.old tops.new) result }
