@@ -1,4 +1,2 @@
 -- A number is its parts, and each answer is read out of its parts
 pub mod PackedExact
--- The ways through the code
-pub mod PackedLaws

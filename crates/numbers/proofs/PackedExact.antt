@@ -6,24 +6,16 @@ use borrow.Author.Tests.{ne_eqb}
 use Rattle.limits.specs.Refusals.{number_of}
 use Rattle.limits.specs.declared.Refusal.{Refusal}
 use Rattle.limits.specs.declared.Refusal.TheVariants.{FileSize, Mark, EventCount, Distance, Kind, Thread, Object, SelfOrSecond, AlreadyBegun, AlreadyJoined, LockHeld, NotHolder, ListShort, NotConflicting, AreaShort, Preamble}
-use Rattle.questions.specs.declared.Judgement.{Judgement}
-use Rattle.questions.specs.declared.Judgement.TheVariants.{Refused as NotJudged, Good}
-use Rattle.questions.specs.declared.Noted.{Noted}
-use Rattle.questions.specs.declared.Noted.TheVariants.{InFile, Operators}
+use Rattle.std.specs.Prelude.{Option, None, Some, Result, Ok, Err}
+use Rattle.questions.specs.declared.Counts.{Counts}
 use Rattle.observing.specs.declared.Observed.{Observed}
-use Rattle.observing.specs.declared.Observed.TheVariants.{Refused as NotObserved, Write, Start, NotARead}
-use Rattle.observing.specs.declared.Observations.{Observations}
-use Rattle.observing.specs.declared.Observations.TheVariants.{Refused as NotGiven, Given}
-use Rattle.verdicts.specs.declared.Finding.{Finding}
-use Rattle.verdicts.specs.declared.Finding.TheVariants.{Refused as NotFound, Reported, NotReported}
-use Rattle.verdicts.specs.declared.Next.{Next}
-use Rattle.verdicts.specs.declared.Next.TheVariants.{Refused as NoNext, Race, NoRace}
-use Rattle.checking.specs.declared.Check.{Check}
-use Rattle.checking.specs.declared.Check.TheVariants.{Refused as NotChecked, Yes, No}
-use Rattle.writing.specs.declared.Written.{Written}
-use Rattle.writing.specs.declared.Written.TheVariants.{Refused as NotWritten, Bytes}
+use Rattle.observing.specs.declared.Observed.TheVariants.{Write, Start, NotARead}
+use Rattle.verdicts.specs.declared.Pair.{Pair}
+use Rattle.checking.specs.Faults.{number_of as fault_number}
+use Rattle.checking.specs.declared.Fault.{Fault}
+use Rattle.checking.specs.declared.Fault.TheVariants.{NoEvent, NotNext, SeesOtherwise, LockHeld as HeldLock, NotReady, LowerNotEnabled, HigherNotEnabled}
 use Rattle.numbers.specs.Numbers.{Parts, packed, unpacked, Small, ReadBack}
-use Rattle.numbers.specs.Packed.{of_refusal, to_refusal, in_case, of_judgement, to_judgement, of_observed, to_observed, of_observations, to_observations, of_finding, to_finding, of_next, to_next, of_check, to_check, of_noted, to_noted, of_written, to_written, NumbersExact}
+use Rattle.numbers.specs.Packed.{of_refusal, to_refusal, in_case, of_judgement, to_judgement, of_observed, to_observed, of_observations, to_observations, of_finding, to_finding, of_next, to_next, to_fault, of_check, to_check, of_noted, to_noted, of_written, to_written, NumbersExact}
 
 -- ---- a number and its parts
 
@@ -81,42 +73,51 @@ module _ {A : Type 0} where
   passed : (r : Refusal) (c : ℕ) → 100 ≤ c → (x y : A) → in_case c (of_refusal r) x y ≡ y
   passed r c h x y = let l = low r in rw (ne_eqb (number_of r) c (λ e. omega arith))
 
-judgement_back : (j : Judgement) → to_judgement (of_judgement j) ≡ j
-judgement_back (NotJudged r) = rw (passed r 100 (omega arith), refusal_back r)
-judgement_back (Good n m) = refl
+judgement_back : (j : Result Counts Refusal) → to_judgement (of_judgement j) ≡ j
+judgement_back (Err r) = rw (passed r 100 (omega arith), refusal_back r)
+judgement_back (Ok c) = refl
 
-observed_back : (o : Observed) → to_observed (of_observed o) ≡ o
-observed_back (NotObserved r) = rw (passed r 101 (omega arith), passed r 102 (omega arith), passed r 103 (omega arith), refusal_back r)
-observed_back (Write w) = refl
-observed_back Start = refl
-observed_back NotARead = refl
+observed_back : (o : Result Observed Refusal) → to_observed (of_observed o) ≡ o
+observed_back (Err r) = rw (passed r 101 (omega arith), passed r 102 (omega arith), passed r 103 (omega arith), refusal_back r)
+observed_back (Ok (Write w)) = refl
+observed_back (Ok Start) = refl
+observed_back (Ok NotARead) = refl
 
-observations_back : (o : Observations) → to_observations (of_observations o) ≡ o
-observations_back (NotGiven r) = rw (passed r 104 (omega arith), refusal_back r)
-observations_back (Given n) = refl
+observations_back : (o : Result ℕ Refusal) → to_observations (of_observations o) ≡ o
+observations_back (Err r) = rw (passed r 104 (omega arith), refusal_back r)
+observations_back (Ok n) = refl
 
-finding_back : (f : Finding) → to_finding (of_finding f) ≡ f
-finding_back (NotFound r) = rw (passed r 105 (omega arith), passed r 106 (omega arith), refusal_back r)
-finding_back (Reported n) = refl
-finding_back NotReported = refl
+finding_back : (f : Result (Option ℕ) Refusal) → to_finding (of_finding f) ≡ f
+finding_back (Err r) = rw (passed r 105 (omega arith), passed r 106 (omega arith), refusal_back r)
+finding_back (Ok (Some n)) = refl
+finding_back (Ok None) = refl
 
-next_back : (n : Next) → to_next (of_next n) ≡ n
-next_back (NoNext r) = rw (passed r 107 (omega arith), passed r 108 (omega arith), refusal_back r)
-next_back (Race a b) = refl
-next_back NoRace = refl
+next_back : (n : Result (Option Pair) Refusal) → to_next (of_next n) ≡ n
+next_back (Err r) = rw (passed r 107 (omega arith), passed r 108 (omega arith), refusal_back r)
+next_back (Ok (Some x)) = refl
+next_back (Ok None) = refl
 
-check_back : (c : Check) → to_check (of_check c) ≡ c
-check_back (NotChecked r) = rw (passed r 109 (omega arith), passed r 110 (omega arith), refusal_back r)
-check_back Yes = refl
-check_back (No n) = refl
+fault_back : (f : Fault) → to_fault (fault_number f) ≡ f
+fault_back NoEvent = refl
+fault_back NotNext = refl
+fault_back SeesOtherwise = refl
+fault_back HeldLock = refl
+fault_back NotReady = refl
+fault_back LowerNotEnabled = refl
+fault_back HigherNotEnabled = refl
 
-noted_back : (n : Noted) → to_noted (of_noted n) ≡ n
-noted_back (InFile m) = refl
-noted_back Operators = refl
+check_back : (c : Result (Option Fault) Refusal) → to_check (of_check c) ≡ c
+check_back (Err r) = rw (passed r 109 (omega arith), passed r 110 (omega arith), refusal_back r)
+check_back (Ok None) = refl
+check_back (Ok (Some f)) = rw (fault_back f)
 
-written_back : (w : Written) → to_written (of_written w) ≡ w
-written_back (NotWritten r) = rw (passed r 113 (omega arith), refusal_back r)
-written_back (Bytes n) = refl
+noted_back : (n : Option ℕ) → to_noted (of_noted n) ≡ n
+noted_back (Some m) = refl
+noted_back None = refl
+
+written_back : (w : Result ℕ Refusal) → to_written (of_written w) ≡ w
+written_back (Err r) = rw (passed r 113 (omega arith), refusal_back r)
+written_back (Ok n) = refl
 
 -- ---- the number and the answer
 

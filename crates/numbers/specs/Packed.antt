@@ -1,34 +1,23 @@
 -- Each answer as a case and two numbers. A refusal's case is the paper's number; all other cases are numbers from 100 on, and no two answers share one.
 -- Beside each the answer that a caller reads out of the parts.
-use Rattle.std.specs.Prelude.{ℕ, ◌<◌, cond, List, [], ◌∷◌, get_or, eqb}
+use Rattle.std.specs.Prelude.{ℕ, ◌-◌, ◌<◌, cond, Option, None, Some, Result, Ok, Err, List, [], ◌∷◌, get_or, eqb}
 use Rattle.limits.specs.Refusals.{number_of, event_of}
 use Rattle.limits.specs.declared.Refusal.{Refusal}
 use Rattle.limits.specs.declared.Refusal.TheVariants.{FileSize, Mark, EventCount, Distance, Kind, Thread, Object, SelfOrSecond, AlreadyBegun, AlreadyJoined, LockHeld, NotHolder, ListShort, NotConflicting, AreaShort, Preamble}
-use Rattle.limits.specs.declared.EventNumber.{EventNumber}
-use Rattle.limits.specs.declared.EventNumber.TheVariants.{Absent, At}
-use Rattle.questions.specs.declared.Judgement.{Judgement}
-use Rattle.questions.specs.declared.Judgement.TheVariants.{Refused as NotJudged, Good}
-use Rattle.questions.specs.declared.Noted.{Noted}
-use Rattle.questions.specs.declared.Noted.TheVariants.{InFile, Operators}
+use Rattle.questions.specs.declared.Counts.{Counts}
 use Rattle.observing.specs.declared.Observed.{Observed}
-use Rattle.observing.specs.declared.Observed.TheVariants.{Refused as NotObserved, Write, Start, NotARead}
-use Rattle.observing.specs.declared.Observations.{Observations}
-use Rattle.observing.specs.declared.Observations.TheVariants.{Refused as NotGiven, Given}
-use Rattle.verdicts.specs.declared.Finding.{Finding}
-use Rattle.verdicts.specs.declared.Finding.TheVariants.{Refused as NotFound, Reported, NotReported}
-use Rattle.verdicts.specs.declared.Next.{Next}
-use Rattle.verdicts.specs.declared.Next.TheVariants.{Refused as NoNext, Race, NoRace}
-use Rattle.checking.specs.declared.Check.{Check}
-use Rattle.checking.specs.declared.Check.TheVariants.{Refused as NotChecked, Yes, No}
-use Rattle.writing.specs.declared.Written.{Written}
-use Rattle.writing.specs.declared.Written.TheVariants.{Refused as NotWritten, Bytes}
+use Rattle.observing.specs.declared.Observed.TheVariants.{Write, Start, NotARead}
+use Rattle.verdicts.specs.declared.Pair.{Pair}
+use Rattle.checking.specs.Faults.{number_of as fault_number}
+use Rattle.checking.specs.declared.Fault.{Fault}
+use Rattle.checking.specs.declared.Fault.TheVariants.{NoEvent, NotNext, SeesOtherwise, LockHeld as HeldLock, NotReady, LowerNotEnabled, HigherNotEnabled}
 use Rattle.numbers.specs.Numbers.{Parts, parts, ReadBack}
 
 -- ---- refusals: the paper's number, and the event's number or 0
 
-abbrev pub event_number : EventNumber → ℕ
-event_number Absent = 0
-event_number (At k) = k
+abbrev pub event_number : Option ℕ → ℕ
+event_number None = 0
+event_number (Some k) = k
 
 abbrev pub of_refusal : Refusal → Parts
 of_refusal r = parts (number_of r) (event_number (event_of r)) 0
@@ -93,88 +82,92 @@ module _ {A : Type 0} where
 
 -- ---- question 1: how many events, and how many threads
 
-abbrev pub of_judgement : Judgement → Parts
-of_judgement (NotJudged r) = of_refusal r
-of_judgement (Good n m) = parts good n m
+abbrev pub of_judgement : Result Counts Refusal → Parts
+of_judgement (Err r) = of_refusal r
+of_judgement (Ok c) = parts good c.events c.threads
 
-abbrev pub to_judgement : Parts → Judgement
-to_judgement p = in_case good p (Good p.first p.second) (NotJudged (to_refusal p))
+abbrev pub to_judgement : Parts → Result Counts Refusal
+to_judgement p = in_case good p (Ok (record { events = p.first; threads = p.second })) (Err (to_refusal p))
 
 -- ---- question 2: the write; for all events at once how many events have their entry
 
-abbrev pub of_observed : Observed → Parts
-of_observed (NotObserved r) = of_refusal r
-of_observed (Write w) = parts write_seen w 0
-of_observed Start = parts start_seen 0 0
-of_observed NotARead = parts not_aRead 0 0
+abbrev pub of_observed : Result Observed Refusal → Parts
+of_observed (Err r) = of_refusal r
+of_observed (Ok (Write w)) = parts write_seen w 0
+of_observed (Ok Start) = parts start_seen 0 0
+of_observed (Ok NotARead) = parts not_aRead 0 0
 
-abbrev pub to_observed : Parts → Observed
-to_observed p = in_case write_seen p (Write p.first) (in_case start_seen p Start (in_case not_aRead p NotARead (NotObserved (to_refusal p))))
+abbrev pub to_observed : Parts → Result Observed Refusal
+to_observed p = in_case write_seen p (Ok (Write p.first)) (in_case start_seen p (Ok Start) (in_case not_aRead p (Ok NotARead) (Err (to_refusal p))))
 
-abbrev pub of_observations : Observations → Parts
-of_observations (NotGiven r) = of_refusal r
-of_observations (Given n) = parts given n 0
+abbrev pub of_observations : Result ℕ Refusal → Parts
+of_observations (Err r) = of_refusal r
+of_observations (Ok n) = parts given n 0
 
-abbrev pub to_observations : Parts → Observations
-to_observations p = in_case given p (Given p.first) (NotGiven (to_refusal p))
+abbrev pub to_observations : Parts → Result ℕ Refusal
+to_observations p = in_case given p (Ok p.first) (Err (to_refusal p))
 
 -- ---- question 3: the length of the witness
 
-abbrev pub of_finding : Finding → Parts
-of_finding (NotFound r) = of_refusal r
-of_finding (Reported n) = parts reported n 0
-of_finding NotReported = parts not_reported 0 0
+abbrev pub of_finding : Result (Option ℕ) Refusal → Parts
+of_finding (Err r) = of_refusal r
+of_finding (Ok (Some n)) = parts reported n 0
+of_finding (Ok None) = parts not_reported 0 0
 
-abbrev pub to_finding : Parts → Finding
-to_finding p = in_case reported p (Reported p.first) (in_case not_reported p NotReported (NotFound (to_refusal p)))
+abbrev pub to_finding : Parts → Result (Option ℕ) Refusal
+to_finding p = in_case reported p (Ok (Some p.first)) (in_case not_reported p (Ok None) (Err (to_refusal p)))
 
 -- ---- question 4: the lower and the higher event
 
-abbrev pub of_next : Next → Parts
-of_next (NoNext r) = of_refusal r
-of_next (Race a b) = parts race a b
-of_next NoRace = parts no_race_found 0 0
+abbrev pub of_next : Result (Option Pair) Refusal → Parts
+of_next (Err r) = of_refusal r
+of_next (Ok (Some x)) = parts race x.lower x.higher
+of_next (Ok None) = parts no_race_found 0 0
 
-abbrev pub to_next : Parts → Next
-to_next p = in_case race p (Race p.first p.second) (in_case no_race_found p NoRace (NoNext (to_refusal p)))
+abbrev pub to_next : Parts → Result (Option Pair) Refusal
+to_next p = in_case race p (Ok (Some (record { lower = p.first; higher = p.second }))) (in_case no_race_found p (Ok None) (Err (to_refusal p)))
 
 -- ---- question 5: the number of the fault
 
-abbrev pub of_check : Check → Parts
-of_check (NotChecked r) = of_refusal r
-of_check Yes = parts yes 0 0
-of_check (No n) = parts no n 0
+-- the faults in the order of their numbers, from 21 on
+abbrev pub to_fault : ℕ → Fault
+to_fault n = get_or (NoEvent ∷ NotNext ∷ SeesOtherwise ∷ HeldLock ∷ LowerNotEnabled ∷ HigherNotEnabled ∷ NotReady ∷ []) (n - 21) NoEvent
 
-abbrev pub to_check : Parts → Check
-to_check p = in_case yes p Yes (in_case no p (No p.first) (NotChecked (to_refusal p)))
+abbrev pub of_check : Result (Option Fault) Refusal → Parts
+of_check (Err r) = of_refusal r
+of_check (Ok None) = parts yes 0 0
+of_check (Ok (Some f)) = parts no (fault_number f) 0
+
+abbrev pub to_check : Parts → Result (Option Fault) Refusal
+to_check p = in_case yes p (Ok None) (in_case no p (Ok (Some (to_fault p.first))) (Err (to_refusal p)))
 
 -- ---- question 6: how many bytes of the file
 
-abbrev pub of_noted : Noted → Parts
-of_noted (InFile m) = parts note_in_file m 0
-of_noted Operators = parts note_of_operator 0 0
+abbrev pub of_noted : Option ℕ → Parts
+of_noted (Some m) = parts note_in_file m 0
+of_noted None = parts note_of_operator 0 0
 
-abbrev pub to_noted : Parts → Noted
-to_noted p = in_case note_in_file p (InFile p.first) Operators
+abbrev pub to_noted : Parts → Option ℕ
+to_noted p = in_case note_in_file p (Some p.first) None
 
 -- ---- the writer: how many bytes
 
-abbrev pub of_written : Written → Parts
-of_written (NotWritten r) = of_refusal r
-of_written (Bytes n) = parts written n 0
+abbrev pub of_written : Result ℕ Refusal → Parts
+of_written (Err r) = of_refusal r
+of_written (Ok n) = parts written n 0
 
-abbrev pub to_written : Parts → Written
-to_written p = in_case written p (Bytes p.first) (NotWritten (to_refusal p))
+abbrev pub to_written : Parts → Result ℕ Refusal
+to_written p = in_case written p (Ok p.first) (Err (to_refusal p))
 
 -- ---- lengths that have two bytes
 
-abbrev pub NotedSmall : Noted → Type 0
-NotedSmall (InFile m) = m < 65536
-NotedSmall Operators = Unit {0}
+abbrev pub NotedSmall : Option ℕ → Type 0
+NotedSmall (Some m) = m < 65536
+NotedSmall None = Unit {0}
 
-abbrev pub WrittenSmall : Written → Type 0
-WrittenSmall (NotWritten r) = Unit {0}
-WrittenSmall (Bytes n) = n < 65536
+abbrev pub WrittenSmall : Result ℕ Refusal → Type 0
+WrittenSmall (Err r) = Unit {0}
+WrittenSmall (Ok n) = n < 65536
 
 -- ---- exact both ways
 
