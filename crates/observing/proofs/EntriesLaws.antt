@@ -3,10 +3,10 @@ use Prim.Native.Nat.{ℕ, zero, suc, ◌+◌, ◌-◌, ◌≤◌, ◌<◌}
 use native.Mathlib.Omega.{arith}
 use mathlib.Core.Path.{◌≡◌, refl, sym, ◌∙◌, ap}
 use mathlib.Core.List.{List, map, ◌++◌}
-use lib.ListN.{length, get_or, drop, set, length-append, length-drop, length-set}
+use lib.ListN.{length, get_or, drop, length-append, length-drop}
 use lib.Dec.{eqb, ltb}
-use lib.Seq.{ext_get_or, get_or-append-add, get_or-drop, get_or-set_same, get_or-set_other}
-use borrow.Author.Tests.{eqb-true, eqb-false, ne_eqb, ltb-true, ltb-false, lt-leb, le-leb}
+use lib.Seq.{ext_get_or, get_or-append-add, get_or-drop}
+use borrow.Author.Tests.{eqb-true, ne_eqb, ltb-true, ltb-false, lt-leb, le-leb}
 use Rattle.model.specs.Trace.{Trace, read, kind_of}
 use Rattle.model.specs.Lists.{numbers, in_front}
 use Rattle.model.specs.Observed.{observed}
@@ -63,19 +63,6 @@ pub record Filled (f : ℕ → ℕ) (n : ℕ) (l l' : List ℕ) : Type 0 where
   pub is : (k : ℕ) → k < n → get_or l' k 0 ≡ f k
   pub kept : (k : ℕ) → n ≤ k → get_or l' k 0 ≡ get_or l k 0
 
--- one place more
-filled_more : {f : ℕ → ℕ} {k : ℕ} {l l' : List ℕ} → Filled f k l l' → k < length l → Filled f (k + 1) l (set l' k (f k))
-filled_more {f} {k} {l} {l'} p h =
-    let b = p.long in
-    record {
-      long = length-set l' k (f k) ∙ b;
-      is = λ j i.
-          by_cases (eqb j k)
-          (λ e. rw (eqb-true j k e) (get_or-set_same l' k (f k) 0 (omega arith)))
-          (λ e. let ne = eqb-false j k e in get_or-set_other l' k j (f k) 0 ne ∙ p.is j (omega arith));
-      kept = λ j i. get_or-set_other l' k j (f k) 0 (λ e. omega arith) ∙ p.kept j (omega arith);
-    }
-
 -- it is filled in one way
 pub filled_one : {f : ℕ → ℕ} {n : ℕ} {l a b : List ℕ} → Filled f n l a → Filled f n l b → a ≡ b
 filled_one {n = n} {a = a} {b = b} p q =
@@ -129,20 +116,8 @@ pub record Entering (t : Trace) (k : ℕ) (l l' : List ℕ) : Type 0 where
   pub filled : Filled (entry_at t) k l l'
   pub low : k ≤ length t + 1
 
-module _ {t : Trace} (n : ℕ) (e : n ≡ length t) where
-  pub entering_start : (l : List ℕ) → n < length l → Entering t 0 l l
-  entering_start l h = record { long = omega arith; low = omega arith; filled = record { long = refl; is = λ k i. absurd (omega arith); kept = λ k i. refl } }
-
-  module _ {k : ℕ} {l l' : List ℕ} (p : Entering t k l l') where
-    module _ (h : k ≤ n) where
-      pub entering_there : k < length l'
-      entering_there = let a = p.long in let b = p.filled.long in omega arith
-
-      pub entering_more : (w : ℕ) → w ≡ entry_at t k → Entering t (k + 1) l (set l' k w)
-      entering_more w q = let a = p.long in record { long = a; low = omega arith; filled = rw q (filled_more p.filled (omega arith)) }
-
-    pub entering_end : n + 1 ≤ k → l' ≡ with_entries t l
-    entering_end h = let a = p.low in let z : k ≡ length t + 1 = omega arith in filled_one (rw z at p.filled) (entries-filled t l p.long)
+entering_end : {t : Trace} {k : ℕ} {l l' : List ℕ} → Entering t k l l' → length t + 1 ≤ k → l' ≡ with_entries t l
+entering_end {t} {k} {l} p h = let a = p.low in let z : k ≡ length t + 1 = omega arith in filled_one (rw z at p.filled) (entries-filled t l p.long)
 
 -- ---- `observations_in`
 
@@ -153,4 +128,4 @@ module _ (t : Trace) (l : List ℕ) (n : ℕ) (e : n ≡ length t) where
 
   pub list_given : {k : ℕ} {l' : List ℕ} → Entering t k l l' → n + 1 ≤ k → (Ok n, l') ≡ observations_in none t l
   unfolding observations_in
-  list_given p h = rw (lt-leb (length l) (length t) p.long, e) (ap (λ (x : List ℕ). (Ok (length t), x)) (entering_end n e p h))
+  list_given p h = rw (lt-leb (length l) (length t) p.long, e) (ap (λ (x : List ℕ). (Ok (length t), x)) (entering_end p (omega arith)))
