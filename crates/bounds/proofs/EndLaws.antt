@@ -5,7 +5,6 @@ use native.Mathlib.Numerals.{add-one}
 use mathlib.Core.Path.{◌≡◌, refl, sym, ◌∙◌, ap, subst}
 use mathlib.Core.Logic.{◌≢◌}
 use mathlib.Core.Bool.{true, cond, not}
-use mathlib.Core.List.Memᴰ
 use mathlib.Core.List.{List}
 use lib.ListN.{length, get_or, set, length-set}
 use lib.Seq.{get_or-set_same, get_or-set_other}
@@ -45,9 +44,6 @@ pub record Ending (s : List ℕ) (m : ℕ) (P Q ends₀ : List ℕ) (i : ℕ) (e
   pub same : length ends ≡ length ends₀
   pub given : Given s m P Q ends
   pub is : (v : ℕ) → v ∈ passed P i → at ends v ≡ nearest (λ k. eqb (began (trace s) k) v) (passed P i)
-
-pub ending_start : {s : List ℕ} {m : ℕ} {P Q ends : List ℕ} → Given s m P Q ends → Ending s m P Q ends 0 ends
-ending_start g = record { same = refl; given = g; is = λ v n. absurd (Memᴰ.not-nil n) }
 
 module _ {s : List ℕ} {m : ℕ} {P Q ends₀ : List ℕ} {i : ℕ} {ends : List ℕ} (p : Ending s m P Q ends₀ i ends) where
   pub ending_end : length P ≤ i → Ended s m P Q ends

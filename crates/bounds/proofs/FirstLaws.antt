@@ -251,9 +251,6 @@ module _ {s : List ℕ} {m : ℕ} {P Q need₀ : List ℕ} {i j : ℕ} {seen nee
     pub firsts_valid : Valid (trace s) k
     firsts_valid = p.given.parts.others k here
 
-    pub firsts_reading : Reading s m P k i seen
-    firsts_reading = record { links = p.given.links; valid = p.given.parts.moved; up = p.given.parts.moved_up; few = p.few; below = λ e n. rw ek (p.below h e n); knows = p.knows }
-
     pub firsts_room : k < length need
     firsts_room = let b = firsts_valid.bounded in let r = p.given.room in omega arith
 

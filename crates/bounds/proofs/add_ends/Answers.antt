@@ -1,9 +1,6 @@
 use Rattle.std.proofs.Common.{rules}
-use Rattle.bounds.proofs.EndLaws.{ending_start, ending_valid, ending_more, ending_end}
+use Rattle.bounds.proofs.EndLaws.{ending_valid, ending_more, ending_end}
 use Rattle.bounds.proofs.add_ends.Goals as goal
-
-pub loop-e-init : goal.loop-e-init
-loop-e-init c = search (ending_start, rules)
 
 pub add_end-requires : goal.add_end-requires
 add_end-requires c = search (ending_valid, rules)

@@ -1,18 +1,12 @@
 use Rattle.std.proofs.Common.{rules}
-use Rattle.bounds.proofs.FirstLaws.{firsts_start, firsts_reading, firsts_valid, firsts_room, firsts_more, firsts_end}
+use Rattle.bounds.proofs.FirstLaws.{firsts_start, firsts_valid, firsts_room, firsts_more, firsts_end}
 use Rattle.bounds.proofs.add_first.Goals as goal
 
 pub loop-event-init : goal.loop-event-init
 loop-event-init c = search (firsts_start, rules)
 
-pub note_reads-i-requires : goal.note_reads-i-requires
-note_reads-i-requires c = search (firsts_reading, rules)
-
 pub first_bound-requires : goal.first_bound-requires
 first_bound-requires c = search (firsts_valid, rules)
-
-pub offset_bounds-need-k : goal.offset_bounds-need-k
-offset_bounds-need-k c = search (firsts_room, rules)
 
 pub bounds-need-k : goal.bounds-need-k
 bounds-need-k c = search (firsts_room, rules)
