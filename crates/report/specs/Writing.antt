@@ -1,5 +1,5 @@
 -- What the functions that write lines go by, and what they leave. Each writes behind the first `at` bytes of a lent buffer, or into its front.
-use Rattle.std.specs.Prelude.{ℕ, ◌+◌, ◌<◌, ◌≡◌, List, ◌∷◌, length}
+use Rattle.std.specs.Prelude.{ℕ, ◌+◌, ◌<◌, ◌≡◌, Option as RustOption, None, Some, List, ◌∷◌, length}
 use Rattle.std.proofs.Math.Option.{Option, none, some}
 use Rattle.model.specs.Trace.{Trace}
 use Rattle.model.specs.Good.{max_events}
@@ -11,7 +11,6 @@ use Rattle.report.specs.Rest.{Line, after, races_left, lines_from, fill}
 use Rattle.report.specs.Places.{place_of}
 use Rattle.report.specs.declared.Position.{Position}
 use Rattle.report.specs.declared.Progress.{Progress}
-use Rattle.report.specs.declared.Progress.TheVariants.{Ended, More}
 
 -- the races before a position and those to come can be counted in 32 bits
 unfoldable pub Countable : Trace → Position → Type 0
@@ -31,14 +30,17 @@ pub record Writing (table : List ℕ) (p : Position) (list : List ℕ) (at : ℕ
   pub countable : Countable (trace table) p
   pub room : Room at out
 
--- the bytes in use after an answer, and the position to go on from
+-- the bytes in use after an answer
 abbrev pub bytes_of : Progress → ℕ
-bytes_of (Ended n) = n
-bytes_of (More n p) = n
+bytes_of w = w.bytes
+
+-- the position to go on from, if there is one
+abbrev pub position_in : RustOption Position → Option Position
+position_in None = none
+position_in (Some p) = some p
 
 abbrev pub next_of : Progress → Option Position
-next_of (Ended n) = none
-next_of (More n p) = some p
+next_of w = position_in w.next
 
 -- as they are handed out: how many bytes, and the place
 abbrev pub placed : Progress → ℕ × List ℕ

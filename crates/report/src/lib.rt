@@ -12,8 +12,6 @@ ghost use Rattle.report.specs.Writing.{Starting, Writing, placed, Advances, Writ
 
 use limits::Recording;
 use lines::LINE_BYTES;
-use opening::Opened;
-use races::Handed;
 
 // No recording has more races than this: pairs of events.
 const MAX_RACES: u32 = (Recording::MAX_EVENTS * Recording::MAX_EVENTS) as u32;
@@ -42,11 +40,11 @@ impl Position {
     }
 }
 
-// After some lines: the bytes in use, and the position to go on from, or that the report has ended.
+// After some lines: the bytes in use, and the position to go on from. There is none where the report has ended.
 #[derive(Clone, Copy)]
-pub enum Progress {
-    Ended(usize),
-    More(usize, Position),
+pub struct Progress {
+    pub bytes: usize,
+    pub next: Option<Position>,
 }
 
 // The first line of a good file's report.
@@ -64,31 +62,28 @@ fn race_line(table: &[u16], p: Position, list: &mut [u16], out: &mut [u8], at: u
     requires { Writing table.now p list.old at out.old }
     ensures { Advances (trace table.now) (races_from (trace table.now) p) list.old list.new at out.old out.new result }
 {
-    let a = p.lower;
-    let b = p.higher;
-    let count = p.count;
-    match races::next_race(table, a, b, list) {
-        Handed::NoMore => Progress::Ended(lines::races(out, at, count)),
-        Handed::Race {
-            lower,
-            higher,
-            length,
-        } => {
-            let bytes = lines::race(out, at, lower, higher, list, length);
-            Progress::More(
-                bytes,
-                Position {
+    match races::next_race(table, p.lower, p.higher, list) {
+        None => Progress {
+            bytes: lines::races(out, at, p.count),
+            next: None,
+        },
+        Some(race) => {
+            let witness = &list[..race.length as usize];
+            Progress {
+                bytes: lines::race(out, at, race.lower, race.higher, witness),
+                next: Some(Position {
                     next: 1,
-                    lower,
-                    higher,
-                    count: count + 1,
-                },
-            )
+                    lower: race.lower,
+                    higher: race.higher,
+                    count: p.count + 1,
+                }),
+            }
         }
     }
 }
 
 // The line that comes next at a position.
+#[tactic(auto, unfolding(crate::specs::Rest::lines_from))]
 fn line(table: &[u16], p: Position, list: &mut [u16], out: &mut [u8], at: usize) -> Progress
     requires { Writing table.now p list.old at out.old }
     ensures { Advances (trace table.now) (lines_from (trace table.now) p) list.old list.new at out.old out.new result }
@@ -96,16 +91,10 @@ fn line(table: &[u16], p: Position, list: &mut [u16], out: &mut [u8], at: usize)
     if p.next != 0 {
         return race_line(table, p, list, out, at);
     }
-    let bytes = first_line(table, out, at);
-    Progress::More(
-        bytes,
-        Position {
-            next: 1,
-            lower: p.lower,
-            higher: p.higher,
-            count: p.count,
-        },
-    )
+    Progress {
+        bytes: first_line(table, out, at),
+        next: Some(Position { next: 1, ..p }),
+    }
 }
 
 // The lines from a position on, as many as surely fit, in the front of a buffer.
@@ -113,20 +102,14 @@ pub fn block(table: &[u16], p: Position, list: &mut [u16], out: &mut [u8]) -> Pr
     requires { Writing table.now p list.old 0 out.old }
     ensures { Fills (trace table.now) p list.old list.new out.old out.new result }
 {
-    let mut position = p;
-    let mut bytes = 0;
-    loop {
-        match line(table, position, list, out, bytes) {
-            Progress::Ended(n) => return Progress::Ended(n),
-            Progress::More(n, next) => {
-                if out.len() - n < LINE_BYTES {
-                    return Progress::More(n, next);
-                }
-                position = next;
-                bytes = n;
-            }
+    let mut progress = line(table, p, list, out, 0);
+    while let Some(next) = progress.next {
+        if out.len() - progress.bytes < LINE_BYTES {
+            return progress;
         }
+        progress = line(table, next, list, out, progress.bytes);
     }
+    progress
 }
 
 // The same with a new list.
@@ -145,16 +128,21 @@ fn lines_at(file: &[u8], p: Position, out: &mut [u8]) -> Progress
 {
     let mut rows = [0u16; table::ROOM];
     match opening::table_of(file, &mut rows) {
-        Opened::Refused(r) => Progress::Ended(lines::refused(out, 0, r)),
-        Opened::Words(n) => new_block(&rows[..n], p, out),
+        Err(r) => Progress {
+            bytes: lines::refused(out, 0, r),
+            next: None,
+        },
+        Ok(n) => new_block(&rows[..n], p, out),
     }
 }
+
+// A caller keeps its place as four words: they are the C interface.
 
 // Do four words say a place in a report?
 fn is_place(place: &[u32; 4]) -> bool
     ensures { result ≡ is_place place.now }
 {
-    (place[0] <= 1) & (place[1] <= 65535) & (place[2] <= 65535) & (place[3] <= MAX_RACES)
+    place[0] <= 1 && place[1] <= 65535 && place[2] <= 65535 && place[3] <= MAX_RACES
 }
 
 // The position that they say.
@@ -171,23 +159,19 @@ fn position_of(place: &[u32; 4]) -> Position
 }
 
 // Puts the words of where to go on; gives how many bytes are in use.
-fn put_place(place: &mut [u32; 4], w: Progress) -> usize
-    ensures { (result, place.new) ≡ placed w }
+fn put_place(place: &mut [u32; 4], progress: Progress) -> usize
+    ensures { (result, place.new) ≡ placed progress }
 {
-    match w {
-        Progress::Ended(n) => {
-            *place = [2, 0, 0, 0];
-            n
-        }
-        Progress::More(n, p) => {
-            *place = [p.next, p.lower as u32, p.higher as u32, p.count];
-            n
-        }
-    }
+    *place = match progress.next {
+        None => [2, 0, 0, 0],
+        Some(p) => [p.next, u32::from(p.lower), u32::from(p.higher), p.count],
+    };
+    progress.bytes
 }
 
 // The next lines of a file's report, as many as surely fit, in the front of a buffer; how many bytes they are. The place says where to go on; all
 // zeros is the start.
+#[tactic(auto, unfolding(crate::specs::Places::answer_lines))]
 pub fn next_lines(file: &[u8], place: &mut [u32; 4], out: &mut [u8]) -> usize
     ensures { (result, place.new, out.new) ≡ answer_lines file.now place.old out.old }
 {
