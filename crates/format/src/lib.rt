@@ -75,6 +75,7 @@ fn marked(file: &[u8]) -> bool
 }
 
 // Refusals 4 and 13, in their order, where the trailer counts so many events.
+#[tactic(auto, unfolding(crate::specs::Layout::layout_refusal, crate::specs::Layout::is_pointed, crate::specs::Layout::is_marked, crate::specs::Layout::distance, crate::specs::Layout::count, crate::specs::Layout::start, crate::specs::Layout::preamble))]
 fn read_distance(file: &[u8], events: usize) -> Result<Recording, Refusal>
     requires { Counted file.now events }
     ensures { result ≡ file_of file.now (layout_refusal event_bytes file.now) }
@@ -91,11 +92,14 @@ fn read_distance(file: &[u8], events: usize) -> Result<Recording, Refusal>
     Ok(Recording { start })
 }
 
-// Refusals 2 to 4 and 13, in their order.
-fn read_trailer(file: &[u8]) -> Result<Recording, Refusal>
-    requires { Sized file.now }
+// Refusals 1 to 4 and 13, in their order.
+#[tactic(auto, unfolding(crate::specs::Layout::layout_refusal, crate::specs::Layout::count))]
+pub fn read(file: &[u8]) -> Result<Recording, Refusal>
     ensures { result ≡ file_of file.now (layout_refusal event_bytes file.now) }
 {
+    if !Recording::bytes_in_limit(file.len()) {
+        return Err(Refusal::FileSize);
+    }
     if !marked(file) {
         return Err(Refusal::Mark);
     }
@@ -106,17 +110,8 @@ fn read_trailer(file: &[u8]) -> Result<Recording, Refusal>
     read_distance(file, events)
 }
 
-// Refusals 1 to 4 and 13, in their order.
-pub fn read(file: &[u8]) -> Result<Recording, Refusal>
-    ensures { result ≡ file_of file.now (layout_refusal event_bytes file.now) }
-{
-    if !Recording::bytes_in_limit(file.len()) {
-        return Err(Refusal::FileSize);
-    }
-    read_trailer(file)
-}
-
 // The bytes of the events of a file that has been read.
+#[tactic(auto, using(crate::proofs::PartLaws::span_low, crate::proofs::PartLaws::event_part_lem))]
 pub fn events(file: &[u8], t: Recording) -> &[u8]
     requires { Placed file.now t }
     ensures { result.now ≡ part_of file.now }
@@ -127,6 +122,7 @@ pub fn events(file: &[u8], t: Recording) -> &[u8]
 }
 
 // How many events there are.
+#[tactic(auto, using(crate::proofs::EventLaws::count_is))]
 pub fn count(ev: &[u8]) -> usize
     ensures { result ≡ length (trace_in ev.now) }
 {
@@ -134,6 +130,7 @@ pub fn count(ev: &[u8]) -> usize
 }
 
 // The thread of event k. Events are counted from 1.
+#[tactic(auto, using(crate::proofs::EventLaws::bytes_there, crate::proofs::EventLaws::thread_is))]
 pub fn thread_at(ev: &[u8], k: usize) -> u8
     requires { Valid (trace_in ev.now) k }
     ensures { result ≡ thread_of (trace_in ev.now) k }
@@ -142,6 +139,7 @@ pub fn thread_at(ev: &[u8], k: usize) -> u8
 }
 
 // The kind of event k.
+#[tactic(auto, using(crate::proofs::EventLaws::bytes_there, crate::proofs::EventLaws::kind_is))]
 pub fn kind_at(ev: &[u8], k: usize) -> u8
     requires { Valid (trace_in ev.now) k }
     ensures { result ≡ kind_of (trace_in ev.now) k }
@@ -150,6 +148,7 @@ pub fn kind_at(ev: &[u8], k: usize) -> u8
 }
 
 // The object of event k.
+#[tactic(auto, using(crate::proofs::EventLaws::bytes_there, crate::proofs::EventLaws::object_is))]
 pub fn object_at(ev: &[u8], k: usize) -> usize
     requires { Valid (trace_in ev.now) k }
     ensures { result ≡ object_of (trace_in ev.now) k }
@@ -158,6 +157,7 @@ pub fn object_at(ev: &[u8], k: usize) -> usize
 }
 
 // Event k.
+#[tactic(auto, using(crate::proofs::EventLaws::event_is))]
 pub fn event_at(ev: &[u8], k: usize) -> Event
     requires { Valid (trace_in ev.now) k }
     ensures { plain result ≡ at (trace_in ev.now) k }

@@ -1,9 +1,9 @@
 use Rattle.std.proofs.Common.{rules}
-use Rattle.format.proofs.ReadLaws.{size_wrong, size_right}
+use Rattle.std.proofs.lemmas.Bool.{leb-true}
+use Rattle.format.specs.Layout.{count}
+use Rattle.format.proofs.LayoutExact.{sized_true, marked_true}
 use Rattle.format.proofs.read.Goals as goal
 
-pub returns-then-not-bytes_in_limit : goal.returns-then-not-bytes_in_limit
-returns-then-not-bytes_in_limit c = search (size_wrong, rules)
-
-pub read_trailer-requires : goal.read_trailer-requires
-read_trailer-requires c = search (size_right, rules)
+pub read_distance-requires : goal.read_distance-requires
+unfolding count
+read_distance-requires c = record { sized = sized_true _ cc; marked = marked_true _ cc; number = search rules; few = leb-true _ _ cc }
