@@ -5,6 +5,7 @@ ghost use Rattle.std.specs.Prelude.{◌≡◌, ◌<◌, length, replicate};
 ghost use Rattle.bits.specs.Mask.{holds, including};
 
 // The set with x in it too. How many numbers a set has is its count of ones.
+#[tactic(auto, using(crate::proofs::MaskLaws::shifted), unfolding(crate::specs::Mask::including))]
 pub fn include(mask: u16, x: u8) -> u16
     requires { x < 16 }
     ensures { result ≡ including mask x }
@@ -13,6 +14,7 @@ pub fn include(mask: u16, x: u8) -> u16
 }
 
 // Is x in the set?
+#[tactic(auto, using(crate::proofs::MaskLaws::none_above), unfolding(crate::specs::Mask::holds))]
 pub fn contains(mask: u16, x: usize) -> bool
     ensures { result ≡ holds mask x }
 {

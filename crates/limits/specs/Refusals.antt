@@ -1,5 +1,5 @@
 -- The refusals: each has the paper's number, and some have an event number.
-use Rattle.std.specs.Prelude.{ℕ, List, [], ◌∷◌, ◌++◌, codes, Option as Stated, Some, None}
+use Rattle.std.specs.Prelude.{ℕ, List, [], ◌∷◌, ◌++◌, codes, Option as RustOption, Some, None}
 use Rattle.std.specs.Fmt.{decimal}
 use Rattle.std.proofs.Math.Option.{Option, none, some}
 use Rattle.model.specs.Rows.{About, nothing, event, Answer, Row, First, Quiet}
@@ -26,7 +26,7 @@ number_of (AlreadyBegun k) = 16
 number_of (AlreadyJoined k) = 17
 
 -- the event number that goes with it, where one does
-abbrev pub event_of : Refusal → Stated ℕ
+abbrev pub event_of : Refusal → RustOption ℕ
 event_of (Kind k) = Some k
 event_of (Thread k) = Some k
 event_of (Object k) = Some k
@@ -38,7 +38,7 @@ event_of (NotHolder k) = Some k
 event_of _ = None
 
 -- in words: "refused N", or "refused N at K" where K is the number of an event
-abbrev pub at_text : Stated ℕ → List ℕ
+abbrev pub at_text : RustOption ℕ → List ℕ
 at_text None = []
 at_text (Some k) = codes " at " ++ decimal k
 
@@ -46,7 +46,7 @@ abbrev pub text_of : Refusal → List ℕ
 text_of r = codes "refused " ++ decimal (number_of r) ++ at_text (event_of r)
 
 -- what goes with it, and the two: the refusal as a row has it
-abbrev pub about_of : Stated ℕ → About
+abbrev pub about_of : RustOption ℕ → About
 about_of None = nothing
 about_of (Some k) = event k
 

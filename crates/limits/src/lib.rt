@@ -91,6 +91,7 @@ pub struct Locks {
 
 impl Locks {
     // Nobody holds any.
+    #[tactic(auto, unfolding(crate::specs::Limits::no_locks))]
     pub fn empty() -> Locks
         ensures holder_value { result.holder ≡ no_locks }
         ensures depth_value { result.depth ≡ no_locks }
@@ -143,6 +144,7 @@ impl Recording {
     }
 
     // Is a work area of so many bytes long enough?
+    #[tactic(auto, unfolding(crate::specs::Limits::is_area_size))]
     pub fn area_suffices(n: usize) -> bool
         ensures { result ≡ is_area_size n }
     {
