@@ -1,2 +1,2 @@
--- The ways through the functions that other languages call
+-- What the functions that other languages call require of their parts
 pub mod CallLaws
