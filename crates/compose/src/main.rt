@@ -1,91 +1,78 @@
 // The compose program: reads a text from standard input and writes the recording that it makes to standard output.
 #![tactic(auto)]
 
-ghost use Rattle.std.specs.Prelude.{◌≡◌, ◌≤◌, length};
+ghost use Rattle.std.specs.Prelude.{◌≡◌, ◌≤◌, length, Some};
 ghost use Rattle.limits.specs.Refusals.{event_of};
 ghost use Rattle.composing.specs.Texts.{text_bytes, lines};
-ghost use Rattle.compose.specs.Composed.{line_about, Composes, WritesParts};
+ghost use Rattle.compose.specs.Composed.{line_about, Composes, WritesParts, in_words};
+ghost use Rattle.compose.specs.declared.Failure.TheVariants.{BadLine as Bad};
 
-use composing::{TEXT_BYTES, Text};
-use input::Input;
-use limits::{EventNumber, Recording, Refusal};
+use composing::{BadLine, TEXT_BYTES};
+use limits::{Recording, Refusal};
+use std::fmt;
 use std::io::ErrorKind;
-use wording::Reason;
-use writing::Written;
 
 // One byte more than a text may have is enough to refuse it.
 const INPUT_BYTES: usize = TEXT_BYTES + 1;
 
-// What a text makes: the number of its first bad line and why it is bad; the refusal of its recording, and the line of the event that it speaks of, or 0; or how many bytes its recording has.
-#[derive(Clone, Copy)]
-pub enum Composed {
-    BadLine(usize, Reason),
-    Refused(Refusal, usize),
-    Recording(usize),
+// Why a text makes no recording: its first bad line; or the refusal of its recording, with the line of the event that it speaks of, if it speaks of one.
+#[derive(Clone, Copy, PartialEq, Eq, Debug)]
+pub enum Failure {
+    BadLine(BadLine),
+    Refused {
+        refusal: Refusal,
+        line: Option<usize>,
+    },
 }
 
-fn say<R: Eprint>(rt: &R, message: &str) {
-    let _ = rt.eprint(message);
-}
+impl From<BadLine> for Failure {
+    ghost from_gives = { λ b f. f ≡ Bad b };
 
-// A number after words.
-fn say_number<R: Eprint>(rt: &R, words: &str, n: u64) {
-    say(rt, words);
-    let _ = rt.eprint(n);
-}
-
-fn say_reason<R: Eprint>(rt: &R, r: Reason) {
-    match r {
-        Reason::Empty => say(rt, "an empty line\n"),
-        Reason::CarriageReturn => say(rt, "a carriage return\n"),
-        Reason::Tab => say(rt, "a tab\n"),
-        Reason::LateNote => say(rt, "a note after an event\n"),
-        Reason::NoteByte => say(rt, "a note with a byte that is not 20 to 7E hex\n"),
-        Reason::Words => say(rt, "not three words with one space between them\n"),
-        Reason::Kind => say(rt, "an unknown kind\n"),
-        Reason::NoNumber => say(rt, "not a number\n"),
-        Reason::LeadingZero => say(rt, "a leading zero\n"),
-        Reason::TooLarge => say(rt, "a number that is too large\n"),
+    fn from(bad: BadLine) -> Failure {
+        Failure::BadLine(bad)
     }
 }
 
-fn say_bad<R: Eprint>(rt: &R, line: usize, r: Reason) {
-    say_number(rt, "compose: bad line ", line as u64);
-    say(rt, ": ");
-    say_reason(rt, r);
-}
+// A refusal that speaks of an event is told by its line too.
+impl fmt::Display for Failure {
+    ghost output = { λ f. Some (in_words f) };
 
-// A refusal; one that speaks of an event also by its line.
-fn say_refused<R: Eprint>(rt: &R, r: Refusal, line: usize) {
-    match r.event() {
-        EventNumber::Absent => say_number(rt, "compose: refused ", r.number() as u64),
-        EventNumber::At(k) => {
-            say_number(rt, "compose: bad line ", line as u64);
-            say_number(rt, ": refused ", r.number() as u64);
-            say_number(rt, " at ", k as u64);
+    fn fmt<W: fmt::Write>(&self, f: &mut fmt::Formatter<W>) -> fmt::Result {
+        match self {
+            Failure::BadLine(bad) => write!(f, "bad line {}: {}", bad.number, bad.reason),
+            Failure::Refused {
+                refusal,
+                line: Some(n),
+            } => write!(f, "bad line {n}: {refusal}"),
+            Failure::Refused {
+                refusal,
+                line: None,
+            } => write!(f, "{refusal}"),
         }
     }
-    say(rt, "\n");
+}
+
+// Says a message on standard error. There is no one to tell where that fails.
+fn say<R: Eprint, M: fmt::Display + Drop>(rt: &R, message: M) {
+    let _ = eprintln!(rt; "compose: {message}");
 }
 
 // Writes all of it. A reader who has left has had what it wanted, so nothing is said of that.
 fn put<R: Print + Eprint>(rt: &R, file: &[u8]) {
     if let Err(e) = rt.write_all(file) {
         if e.kind() != ErrorKind::BrokenPipe {
-            say(rt, "compose: cannot write the recording\n");
+            say(rt, "cannot write the recording");
         }
     }
 }
 
-// The line of the event that a refusal speaks of, or 0; so many note lines are before the events.
-fn line_about(text: &[u8], notes: usize, r: Refusal) -> usize
+// The line of the event that a refusal speaks of, if it speaks of one; so many note lines are before the events.
+fn line_about(text: &[u8], notes: usize, r: Refusal) -> Option<usize>
     requires { notes ≤ text_bytes }
     ensures { result ≡ line_about notes (lines text.now) (event_of r) }
 {
-    match r.event() {
-        EventNumber::Absent => 0,
-        EventNumber::At(k) => composing::line_of(text, notes + k as usize),
-    }
+    let k = r.event()?;
+    composing::line_of(text, notes + k as usize)
 }
 
 // The recording of a preamble and events that a text has, with so many note lines.
@@ -97,18 +84,21 @@ fn write_parts(
     kinds: &[u8],
     objects: &[u16],
     file: &mut [u8],
-) -> Composed
+) -> Result<usize, Failure>
     requires { notes ≤ text_bytes }
     ensures { WritesParts text.now notes preamble.now threads.now kinds.now objects.now file.old file.new result }
 {
     match writing::write_file(preamble, threads, kinds, objects, file) {
-        Written::Refused(r) => Composed::Refused(r, line_about(text, notes, r)),
-        Written::Bytes(n) => Composed::Recording(n),
+        Ok(n) => Ok(n),
+        Err(refusal) => Err(Failure::Refused {
+            refusal,
+            line: line_about(text, notes, refusal),
+        }),
     }
 }
 
-// The recording that a text makes, in the front of a lent file.
-fn compose_text(text: &[u8], file: &mut [u8]) -> Composed
+// The recording that a text makes, in the front of a lent file: how many bytes it has.
+fn compose_text(text: &[u8], file: &mut [u8]) -> Result<usize, Failure>
     requires { length text.now ≤ text_bytes }
     ensures { Composes text.now file.old file.new result }
 {
@@ -116,22 +106,16 @@ fn compose_text(text: &[u8], file: &mut [u8]) -> Composed
     let mut threads = [0u8; TEXT_BYTES];
     let mut kinds = [0u8; TEXT_BYTES];
     let mut objects = [0u16; TEXT_BYTES];
-    match composing::read_text(text, &mut preamble, &mut threads, &mut kinds, &mut objects) {
-        Text::Bad(n, r) => Composed::BadLine(n, r),
-        Text::Good {
-            notes,
-            preamble: p,
-            events,
-        } => write_parts(
-            text,
-            notes,
-            &preamble[0..p],
-            &threads[0..events],
-            &kinds[0..events],
-            &objects[0..events],
-            file,
-        ),
-    }
+    let parts = composing::read_text(text, &mut preamble, &mut threads, &mut kinds, &mut objects)?;
+    write_parts(
+        text,
+        parts.notes,
+        &preamble[..parts.preamble],
+        &threads[..parts.events],
+        &kinds[..parts.events],
+        &objects[..parts.events],
+        file,
+    )
 }
 
 // Writes the recording that a text makes, or says why there is none.
@@ -140,22 +124,16 @@ fn answer<R: Print + Eprint>(rt: &R, text: &[u8])
 {
     let mut file = [0u8; Recording::MAX_BYTES];
     match compose_text(text, &mut file) {
-        Composed::BadLine(n, r) => say_bad(rt, n, r),
-        Composed::Refused(r, line) => say_refused(rt, r, line),
-        Composed::Recording(n) => put(rt, &file[0..n]),
+        Ok(n) => put(rt, &file[..n]),
+        Err(failure) => say(rt, failure),
     }
 }
 
 fn main(rt: HostRuntime) {
     let mut text = [0u8; INPUT_BYTES];
     match input::read(&mut rt.stdin(), &mut text) {
-        Input::Failed => say(&rt, "compose: cannot read the text\n"),
-        Input::Bytes(n) => {
-            if TEXT_BYTES < n {
-                say(&rt, "compose: the text is too long\n");
-                return;
-            }
-            answer(&rt, &text[0..n]);
-        }
+        Ok(n) if n <= TEXT_BYTES => answer(&rt, &text[..n]),
+        Ok(_) => say(&rt, "the text is too long"),
+        Err(_) => say(&rt, "cannot read the text"),
     }
 }

@@ -102,7 +102,7 @@ same_lent e a b l k = record {
 same_parts : (v w : Parts) → v.notes ≡ w.notes → v.preamble ≡ w.preamble → v.events ≡ w.events → v ≡ w
 same_parts v w a p n = let same : ◌≡◌ {A = Parts} (record { notes = v.notes; preamble = v.preamble; events = v.events }) (record { notes = w.notes; preamble = w.preamble; events = w.events }) = rw (a, p, n) in same
 
-same_bad : (b c : BadLine) → b.number ≡ c.number → b.reason ≡ c.reason → b ≡ c
+pub same_bad : (b c : BadLine) → b.number ≡ c.number → b.reason ≡ c.reason → b ≡ c
 same_bad b c n r = let same : ◌≡◌ {A = BadLine} (record { number = b.number; reason = b.reason }) (record { number = c.number; reason = c.reason }) = rw (n, r) in same
 
 module _ (text : List ℕ) where
