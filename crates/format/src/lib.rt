@@ -42,26 +42,18 @@ pub fn readable(s: &[u8]) -> bool
     s.iter().all(|b| NoteByte { value: *b }.is_readable())
 }
 
-fn wide(b: u8) -> usize
-    ensures value { result ≡ b }
-    ensures upper_bound { result < 256 }
-{
-    b as usize
-}
-
 fn read16(s: &[u8], at: usize) -> usize
     requires { at + 2 ≤ length s.now }
-    ensures value { result ≡ number16 s.now at }
-    ensures upper_bound { result < 65536 }
+    ensures { result ≡ number16 s.now at }
 {
-    wide(s[at]) + 256 * wide(s[at + 1])
+    u16::from_le_bytes([s[at], s[at + 1]]) as usize
 }
 
 fn read32(s: &[u8], at: usize) -> usize
     requires { at + 4 ≤ length s.now }
     ensures { result ≡ number32 s.now at }
 {
-    read16(s, at) + 65536 * read16(s, at + 2)
+    u32::from_le_bytes([s[at], s[at + 1], s[at + 2], s[at + 3]]) as usize
 }
 
 // Has the file the mark?
