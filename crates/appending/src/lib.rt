@@ -9,6 +9,7 @@ ghost use Rattle.appending.specs.Appended.{Appends, AppendsShort};
 // The most bytes of an event's number after a space.
 pub const EVENT_WIDTH: usize = 6;
 
+#[tactic(auto, using(crate::proofs::AppendLaws::appends_byte))]
 pub fn put_byte(out: &mut [u8], at: usize, b: u8) -> usize
     requires { at + 1 ≤ length out.old }
     ensures { Appends (b ∷ []) at out.old out.new result }
@@ -27,6 +28,7 @@ pub fn put_word(out: &mut [u8], at: usize, word: &[u8]) -> usize
 }
 
 // A number of one digit.
+#[tactic(auto, using(crate::proofs::DecimalLaws::decimal_one))]
 fn digit(d: u32) -> u8
     requires { d < 10 }
     ensures { decimal d ≡ result ∷ [] }
