@@ -5,3 +5,7 @@ pub mod Table
 pub mod Entries
 -- the test of a conflicting pair
 pub mod Conflicts
+-- that it has its links is a fact
+pub mod Facts
+-- the table of a judged recording
+pub mod Judged

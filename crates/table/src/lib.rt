@@ -3,13 +3,13 @@
 
 ghost use Rattle.std.specs.Prelude.{◌≡◌, ◌≤◌, ◌<◌, length};
 ghost use Rattle.model.specs.Trace.{Valid, fork, thread_of, kind_of, object_of, does};
-ghost use Rattle.model.specs.Lists.{threads};
 ghost use Rattle.model.specs.Good.{Good, max_thread, max_object};
-ghost use Rattle.table.specs.Links.{previous, waits_for, release_of, began, fork_of};
-ghost use Rattle.decision.specs.Decision.{is_conflicting};
-ghost use Rattle.table.specs.Conflicts.{Lower, accesses};
-ghost use Rattle.table.specs.Table.{words, word, trace, columns, column, Linked, Place, with_word};
+ghost use Rattle.table.specs.Conflicts.{accesses};
+ghost use Rattle.table.specs.Table.{words, word, trace, Place, with_word};
 
+mod judged;
+
+pub use judged::Table;
 use limits::{Event, Recording};
 
 // The words of a row.
@@ -133,59 +133,6 @@ pub fn is_event(table: &[u16], k: usize, kind: u8, object: usize) -> bool
     kind_at(table, k) == kind && object_at(table, k) == object
 }
 
-// What column c has of event k.
-#[tactic(auto, using(crate::proofs::TableLaws::column_is))]
-fn column_at(table: &[u16], k: usize, c: usize) -> usize
-    requires { Linked table.now × (Valid (trace table.now) k × (c < columns)) }
-    ensures value { result ≡ column c (trace table.now) k }
-    ensures upper_bound { result < 65536 }
-{
-    word(table, k, c)
-}
-
-// The event before event k in its thread; 0 where there is none.
-pub fn previous_at(table: &[u16], k: usize) -> usize
-    requires { Linked table.now × Valid (trace table.now) k }
-    ensures { result ≡ previous (trace table.now) k }
-{
-    column_at(table, k, PREVIOUS)
-}
-
-// What event k waits for: the observed write of a read, the last event of the thread that is joined; 0 where there is none.
-pub fn waits_at(table: &[u16], k: usize) -> usize
-    requires { Linked table.now × Valid (trace table.now) k }
-    ensures value { result ≡ waits_for (trace table.now) k }
-    ensures upper_bound { result < 65536 }
-{
-    column_at(table, k, WAITS)
-}
-
-// Where the section ends that event k begins or ends; 0 where there is none.
-pub fn released_at(table: &[u16], k: usize) -> usize
-    requires { Linked table.now × Valid (trace table.now) k }
-    ensures { result ≡ release_of (trace table.now) k }
-{
-    column_at(table, k, RELEASED)
-}
-
-// Where the interval begins that event k is in: a write, or a read's observed write; an outermost acquire, or that of a last release; 0 where there is none.
-pub fn began_at(table: &[u16], k: usize) -> usize
-    requires { Linked table.now × Valid (trace table.now) k }
-    ensures value { result ≡ began (trace table.now) k }
-    ensures upper_bound { result < 65536 }
-{
-    column_at(table, k, BEGAN)
-}
-
-// The fork of event k's thread; 0 where there is none.
-pub fn forked_at(table: &[u16], k: usize) -> usize
-    requires { Linked table.now × Valid (trace table.now) k }
-    ensures value { result ≡ fork_of (trace table.now) k }
-    ensures upper_bound { result < 65536 }
-{
-    column_at(table, k, FORKED)
-}
-
 // Are events of these kinds accesses, at least one a write?
 #[tactic(auto, unfolding(crate::specs::Conflicts::accesses))]
 fn accesses(c: u8, d: u8) -> bool
@@ -197,44 +144,10 @@ fn accesses(c: u8, d: u8) -> bool
     )
 }
 
-// Are two events of the trace, lower first, a conflicting pair: of one cell, of different threads, both accesses, at least one a write?
-#[tactic(auto, using(crate::proofs::ConflictLaws::other_cell, crate::proofs::ConflictLaws::same_thread, crate::proofs::ConflictLaws::by_kinds))]
-fn conflicting_in(table: &[u16], a: usize, b: usize) -> bool
-    requires { Lower (trace table.now) a b }
-    ensures { result ≡ is_conflicting (trace table.now) a b }
-{
-    object_at(table, a) == object_at(table, b)
-        && thread_at(table, a) != thread_at(table, b)
-        && accesses(kind_at(table, a), kind_at(table, b))
-}
-
-// Are a and b a conflicting pair? Any two numbers may be asked.
-#[tactic(auto, using(crate::proofs::ConflictLaws::below, crate::proofs::ConflictLaws::not_lower, crate::proofs::ConflictLaws::above))]
-pub fn conflicting(table: &[u16], a: u16, b: u16) -> bool
-    ensures { result ≡ is_conflicting (trace table.now) a b }
-{
-    let lower = usize::from(a);
-    let higher = usize::from(b);
-    0 < lower && lower < higher && higher <= count(table) && conflicting_in(table, lower, higher)
-}
-
 // Sets word c of event k's row.
 pub fn set_word(table: &mut [u16], k: usize, c: usize, x: u16)
     requires { Place k c table.old }
     ensures { table.new ≡ with_word table.old k c x }
 {
     table[WORDS * (k - 1) + c] = x;
-}
-
-// How many different threads have an event: the ones of a mask.
-#[tactic(auto, using(crate::proofs::ThreadLaws::seen_start, crate::proofs::ThreadLaws::seen_valid, crate::proofs::ThreadLaws::seen_small, crate::proofs::ThreadLaws::seen_more, crate::proofs::ThreadLaws::seen_end))]
-pub fn threads(table: &[u16]) -> u32
-    requires { Good (trace table.now) }
-    ensures { result ≡ length (threads (trace table.now)) }
-{
-    let mut seen = 0u16;
-    for k in (1..count(table) + 1).rev() {
-        seen = bits::include(seen, thread_at(table, k));
-    }
-    u16::count_ones(seen)
 }

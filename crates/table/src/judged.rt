@@ -1,0 +1,151 @@
+// The table of a judged recording.
+
+ghost use Rattle.table.specs.Table.{Linked};
+ghost use Rattle.table.specs.Facts.{Linked_prop};
+
+// The words of a table that has the links of all its events, and so those of a good recording.
+#[derive(Clone, Copy)]
+pub struct Table<'a> {
+    pub words: &'a [u16],
+    pub ghost links: { Linked words.now } by { Linked_prop words.now },
+}
+
+impl Table<'_> {
+    ghost use Rattle.std.specs.Prelude.{◌≡◌, ◌≤◌, ◌<◌, length};
+    ghost use Rattle.model.specs.Trace.{Valid, fork, thread_of, kind_of, object_of};
+    ghost use Rattle.model.specs.Lists.{threads};
+    ghost use Rattle.model.specs.Good.{max_thread, max_object};
+    ghost use Rattle.decision.specs.Decision.{is_conflicting};
+    ghost use Rattle.table.specs.Conflicts.{Lower};
+    ghost use Rattle.table.specs.Links.{previous, waits_for, release_of, began, fork_of};
+    ghost use Rattle.table.specs.Table.{columns, column};
+    ghost use Rattle.table.specs.Judged.{events};
+
+    // How many events there are.
+    pub fn count(&self) -> usize
+        ensures { result ≡ length (events self.now) }
+    {
+        crate::count(self.words)
+    }
+
+    // The thread of event k. Events are counted from 1.
+    pub fn thread_at(&self, k: usize) -> u8
+        requires { Valid (events self.now) k }
+        ensures value { result ≡ thread_of (events self.now) k }
+        ensures upper_bound { result ≤ max_thread }
+    {
+        crate::thread_at(self.words, k)
+    }
+
+    // The same, as a place of a list by thread.
+    pub fn thread_place(&self, k: usize) -> usize
+        requires { Valid (events self.now) k }
+        ensures value { result ≡ thread_of (events self.now) k }
+        ensures upper_bound { result ≤ max_thread }
+    {
+        crate::thread_place(self.words, k)
+    }
+
+    // The kind of event k.
+    pub fn kind_at(&self, k: usize) -> u8
+        requires { Valid (events self.now) k }
+        ensures { result ≡ kind_of (events self.now) k }
+    {
+        crate::kind_at(self.words, k)
+    }
+
+    // The object of event k, a cell, a lock, or the thread that is forked or joined, as a place of a list by object.
+    pub fn object_place(&self, k: usize) -> usize
+        requires { Valid (events self.now) k }
+        ensures value { result ≡ object_of (events self.now) k }
+        ensures upper_bound { result ≤ max_object }
+    {
+        crate::object_place(self.words, k)
+    }
+
+    // What column c has of event k.
+    #[tactic(auto, using(crate::proofs::TableLaws::column_is))]
+    fn column_at(&self, k: usize, c: usize) -> usize
+        requires { Valid (events self.now) k × (c < columns) }
+        ensures value { result ≡ column c (events self.now) k }
+        ensures upper_bound { result < 65536 }
+    {
+        crate::word(self.words, k, c)
+    }
+
+    // The event before event k in its thread; 0 where there is none.
+    pub fn previous_at(&self, k: usize) -> usize
+        requires { Valid (events self.now) k }
+        ensures { result ≡ previous (events self.now) k }
+    {
+        self.column_at(k, crate::PREVIOUS)
+    }
+
+    // What event k waits for: the observed write of a read, the last event of the thread that is joined; 0 where there is none.
+    pub fn waits_at(&self, k: usize) -> usize
+        requires { Valid (events self.now) k }
+        ensures value { result ≡ waits_for (events self.now) k }
+        ensures upper_bound { result < 65536 }
+    {
+        self.column_at(k, crate::WAITS)
+    }
+
+    // Where the section ends that event k begins or ends; 0 where there is none.
+    pub fn released_at(&self, k: usize) -> usize
+        requires { Valid (events self.now) k }
+        ensures { result ≡ release_of (events self.now) k }
+    {
+        self.column_at(k, crate::RELEASED)
+    }
+
+    // Where the interval begins that event k is in: a write, or a read's observed write; an outermost acquire, or that of a last release; 0 where there is none.
+    pub fn began_at(&self, k: usize) -> usize
+        requires { Valid (events self.now) k }
+        ensures value { result ≡ began (events self.now) k }
+        ensures upper_bound { result < 65536 }
+    {
+        self.column_at(k, crate::BEGAN)
+    }
+
+    // The fork of event k's thread; 0 where there is none.
+    pub fn forked_at(&self, k: usize) -> usize
+        requires { Valid (events self.now) k }
+        ensures value { result ≡ fork_of (events self.now) k }
+        ensures upper_bound { result < 65536 }
+    {
+        self.column_at(k, crate::FORKED)
+    }
+
+    // Are two events of the trace, lower first, a conflicting pair: of one cell, of different threads, both accesses, at least one a write?
+    #[tactic(auto, using(crate::proofs::ConflictLaws::other_cell, crate::proofs::ConflictLaws::same_thread, crate::proofs::ConflictLaws::by_kinds))]
+    fn conflicting_in(&self, a: usize, b: usize) -> bool
+        requires { Lower (events self.now) a b }
+        ensures { result ≡ is_conflicting (events self.now) a b }
+    {
+        self.object_place(a) == self.object_place(b)
+            && self.thread_at(a) != self.thread_at(b)
+            && crate::accesses(self.kind_at(a), self.kind_at(b))
+    }
+
+    // Are a and b a conflicting pair? Any two numbers may be asked.
+    #[tactic(auto, using(crate::proofs::ConflictLaws::below, crate::proofs::ConflictLaws::not_lower, crate::proofs::ConflictLaws::above))]
+    pub fn conflicting(&self, a: u16, b: u16) -> bool
+        ensures { result ≡ is_conflicting (events self.now) a b }
+    {
+        let lower = usize::from(a);
+        let higher = usize::from(b);
+        0 < lower && lower < higher && higher <= self.count() && self.conflicting_in(lower, higher)
+    }
+
+    // How many different threads have an event: the ones of a mask.
+    #[tactic(auto, using(crate::proofs::ThreadLaws::seen_start, crate::proofs::ThreadLaws::seen_valid, crate::proofs::ThreadLaws::seen_small, crate::proofs::ThreadLaws::seen_more, crate::proofs::ThreadLaws::seen_end))]
+    pub fn threads(&self) -> u32
+        ensures { result ≡ length (threads (events self.now)) }
+    {
+        let mut seen = 0u16;
+        for k in (1..self.count() + 1).rev() {
+            seen = bits::include(seen, self.thread_at(k));
+        }
+        u16::count_ones(seen)
+    }
+}
