@@ -4,81 +4,82 @@
 
 ghost use Rattle.std.specs.Prelude.{◌≡◌, ◌+◌, ◌≤◌, ◌<◌, length, replicate};
 ghost use Rattle.model.specs.Trace.{Valid};
-ghost use Rattle.table.specs.Table.{trace, Linked};
+ghost use Rattle.table.specs.Judged.{events};
 ghost use Rattle.table.specs.Entries.{with_write};
 ghost use Rattle.model.specs.Good.{max_object};
 ghost use Rattle.bounds.specs.Bounds.{is_own, Given, Ended, Needed, Bound, Covers};
 ghost use Rattle.bounds.specs.Steps.{with_end, raised_to, is_outside, with_read, Reading, Read, own_event, action_bound, first_bound, First, is_other, with_over, FirstTwo, with_section, Sections, is_open_in, with_open};
 
 use limits::{Event, Thread};
+use table::Table;
 
 // Is w, which may be 0, an event of thread m?
 #[tactic(auto, unfolding(crate::specs::Bounds::is_own, model::specs::Lists::just))]
-fn is_own(table: &[u16], m: u8, w: usize) -> bool
-    requires { w ≤ length (trace table.now) }
-    ensures { result ≡ is_own (trace table.now) m w }
+fn is_own(table: &Table, m: u8, w: usize) -> bool
+    requires { w ≤ length (events table.now) }
+    ensures { result ≡ is_own (events table.now) m w }
 {
-    w != 0 && table::thread_at(table, w) == m
+    w != 0 && table.thread_at(w) == m
 }
 
 // Event e of p is the last so far of its interval, where that begins in p.
 #[tactic(auto, using(crate::proofs::EndLaws::began_few, crate::proofs::EndLaws::end_room), unfolding(crate::specs::Steps::with_end))]
-fn add_end(table: &[u16], m: u8, e: usize, ends: &mut [u16])
-    requires { Linked table.now × (Valid (trace table.now) e × (length (trace table.now) < length ends.old)) }
-    ensures { ends.new ≡ with_end (trace table.now) m e ends.old }
+fn add_end(table: &Table, m: u8, e: usize, ends: &mut [u16])
+    requires { Valid (events table.now) e × (length (events table.now) < length ends.old) }
+    ensures { ends.new ≡ with_end (events table.now) m e ends.old }
 {
     ends[e] = 0;
-    let v = table::began_at(table, e);
+    let v = table.began_at(e);
     if is_own(table, m, v) {
         ends[v] = e as u16;
     }
 }
 
 // Where the interval ends that each event of p begins.
-fn add_ends(table: &[u16], m: u8, p: &[u16], q: &[u16], ends: &mut [u16])
-    requires { Given table.now m p.now q.now ends.old }
-    ensures { Ended table.now m p.now q.now ends.new }
+fn add_ends(table: &Table, m: u8, p: &[u16], q: &[u16], ends: &mut [u16])
+    requires { Given table.now.words.now m p.now q.now ends.old }
+    ensures { Ended table.now.words.now m p.now q.now ends.new }
 {
     for e in p {
-        add_end(table, m, table::wide(*e), ends);
+        add_end(table, m, usize::from(*e), ends);
     }
 }
 
 // Is event e a read that saw no write of thread m?
 #[tactic(auto, using(crate::proofs::FirstLaws::waits_few, table::proofs::LinkFacts::reads_observed), unfolding(crate::specs::Steps::is_outside))]
-fn outside(table: &[u16], m: u8, e: usize) -> bool
-    requires { Linked table.now × Valid (trace table.now) e }
-    ensures { result ≡ is_outside (trace table.now) m e }
+fn outside(table: &Table, m: u8, e: usize) -> bool
+    requires { Valid (events table.now) e }
+    ensures { result ≡ is_outside (events table.now) m e }
 {
-    table::kind_at(table, e) == Event::READ && !is_own(table, m, table::waits_at(table, e))
+    table.kind_at(e) == Event::READ && !is_own(table, m, table.waits_at(e))
 }
 
 // Event e of p, where it is such a read, is the last of its cell so far.
 #[tactic(auto, unfolding(crate::specs::Steps::with_read))]
-fn note_read(table: &[u16], m: u8, e: usize, seen: &mut [u16; Event::OBJECTS])
-    requires { Linked table.now × Valid (trace table.now) e }
-    ensures { seen.new ≡ with_read (trace table.now) m e seen.old }
+fn note_read(table: &Table, m: u8, e: usize, seen: &mut [u16; Event::OBJECTS])
+    requires { Valid (events table.now) e }
+    ensures { seen.new ≡ with_read (events table.now) m e seen.old }
 {
     if outside(table, m, e) {
-        let x = table::object_place(table, e);
+        let x = table.object_place(e);
         seen[x] = e as u16;
     }
 }
 
 // The events of p from place `from` on that are below event k pass. Gives the place of the first that is not.
 fn note_reads(
-    table: &[u16],
+    table: &Table,
     m: u8,
     p: &[u16],
     seen: &mut [u16; Event::OBJECTS],
     from: usize,
     k: usize,
 ) -> usize
-    requires { Reading table.now m p.now k from seen.old }
-    ensures { Read table.now m p.now k result seen.new }
+    requires { Reading table.now.words.now m p.now k from seen.old }
+    ensures { Read table.now.words.now m p.now k result seen.new }
 {
     for i in from..p.len() {
-        let e = table::wide(p[i]);
+        let e = usize::from(p[i]);
         if k <= e {
             return i;
         }
@@ -89,9 +90,9 @@ fn note_reads(
 
 // w, where it is an event of thread m; 0 otherwise.
 #[tactic(auto, unfolding(crate::specs::Steps::own_event))]
-fn own_event(table: &[u16], m: u8, w: usize) -> u16
-    requires { (w ≤ length (trace table.now)) × (w < 65536) }
-    ensures { result ≡ own_event (trace table.now) m w }
+fn own_event(table: &Table, m: u8, w: usize) -> u16
+    requires { (w ≤ length (events table.now)) × (w < 65536) }
+    ensures { result ≡ own_event (events table.now) m w }
 {
     if is_own(table, m, w) { w as u16 } else { 0 }
 }
@@ -99,36 +100,36 @@ fn own_event(table: &[u16], m: u8, w: usize) -> u16
 // What event k of q needs by what it does: the write of p that it observed, the last event of p where it joins the moved thread, or the last read of p
 // before it that it overwrote.
 #[tactic(auto, using(crate::proofs::FirstLaws::waits_few), unfolding(crate::specs::Steps::action_bound))]
-fn action_bound(table: &[u16], m: u8, k: usize, seen: &[u16; Event::OBJECTS]) -> u16
-    requires { Linked table.now × Valid (trace table.now) k }
-    ensures { result ≡ action_bound (trace table.now) m k seen.now }
+fn action_bound(table: &Table, m: u8, k: usize, seen: &[u16; Event::OBJECTS]) -> u16
+    requires { Valid (events table.now) k }
+    ensures { result ≡ action_bound (events table.now) m k seen.now }
 {
-    if table::kind_at(table, k) == Event::WRITE {
-        let x = table::object_place(table, k);
+    if table.kind_at(k) == Event::WRITE {
+        let x = table.object_place(k);
         return seen[x];
     }
-    own_event(table, m, table::waits_at(table, k))
+    own_event(table, m, table.waits_at(k))
 }
 
 // And where its thread was forked by p, the fork.
 #[tactic(auto, using(crate::proofs::FirstLaws::fork_few), unfolding(crate::specs::Steps::first_bound))]
-fn first_bound(table: &[u16], m: u8, k: usize, seen: &[u16; Event::OBJECTS]) -> u16
-    requires { Linked table.now × Valid (trace table.now) k }
-    ensures { result ≡ first_bound (trace table.now) m k seen.now }
+fn first_bound(table: &Table, m: u8, k: usize, seen: &[u16; Event::OBJECTS]) -> u16
+    requires { Valid (events table.now) k }
+    ensures { result ≡ first_bound (events table.now) m k seen.now }
 {
     let bound = action_bound(table, m, k, seen);
-    bound.max(own_event(table, m, table::forked_at(table, k)))
+    bound.max(own_event(table, m, table.forked_at(k)))
 }
 
 // What each event of q needs by what it waits for, observed or overwrote. The two lists are walked in the trace's order.
-fn add_first(table: &[u16], m: u8, p: &[u16], q: &[u16], need: &mut [u16])
-    requires { Given table.now m p.now q.now need.old }
-    ensures { Needed table.now m p.now q.now (First (trace table.now) p.now) need.new }
+fn add_first(table: &Table, m: u8, p: &[u16], q: &[u16], need: &mut [u16])
+    requires { Given table.now.words.now m p.now q.now need.old }
+    ensures { Needed table.now.words.now m p.now q.now (First (events table.now) p.now) need.new }
 {
     let mut seen = [0u16; Event::OBJECTS];
     let mut i = 0;
     for event in q {
-        let k = table::wide(*event);
+        let k = usize::from(*event);
         i = note_reads(table, m, p, &mut seen, i, k);
         need[k] = first_bound(table, m, k, &seen);
     }
@@ -145,49 +146,49 @@ fn raise(list: &mut [u16], k: usize, v: u16)
 
 // Event e of p, where it is a write, is the last of its cell so far.
 #[tactic(auto, unfolding(table::specs::Entries::with_write))]
-fn note_write(table: &[u16], e: usize, last: &mut [u16; Event::OBJECTS])
-    requires { Linked table.now × Valid (trace table.now) e }
-    ensures { last.new ≡ with_write (trace table.now) e last.old }
+fn note_write(table: &Table, e: usize, last: &mut [u16; Event::OBJECTS])
+    requires { Valid (events table.now) e }
+    ensures { last.new ≡ with_write (events table.now) e last.old }
 {
-    if table::kind_at(table, e) == Event::WRITE {
-        let x = table::object_place(table, e);
+    if table.kind_at(e) == Event::WRITE {
+        let x = table.object_place(e);
         last[x] = e as u16;
     }
 }
 
 // Is w, which may be 0, an event of another thread than m?
 #[tactic(auto, unfolding(crate::specs::Steps::is_other))]
-fn is_other(table: &[u16], m: u8, w: usize) -> bool
-    requires { w ≤ length (trace table.now) }
-    ensures { result ≡ is_other (trace table.now) m w }
+fn is_other(table: &Table, m: u8, w: usize) -> bool
+    requires { w ≤ length (events table.now) }
+    ensures { result ≡ is_other (events table.now) m w }
 {
     w != 0 && !is_own(table, m, w)
 }
 
 // Where event e of p observed a write of q, that write needs the last write of p before e.
 #[tactic(auto, using(crate::proofs::FirstLaws::waits_few, table::proofs::LinkFacts::reads_observed), unfolding(crate::specs::Steps::with_over))]
-fn read_over(table: &[u16], m: u8, e: usize, last: &[u16; Event::OBJECTS], need: &mut [u16])
-    requires { Linked table.now × (Valid (trace table.now) e × (length (trace table.now) < length need.old)) }
-    ensures { need.new ≡ with_over (trace table.now) m e last.now need.old }
+fn read_over(table: &Table, m: u8, e: usize, last: &[u16; Event::OBJECTS], need: &mut [u16])
+    requires { Valid (events table.now) e × (length (events table.now) < length need.old) }
+    ensures { need.new ≡ with_over (events table.now) m e last.now need.old }
 {
-    if table::kind_at(table, e) != Event::READ {
+    if table.kind_at(e) != Event::READ {
         return;
     }
-    let w = table::waits_at(table, e);
+    let w = table.waits_at(e);
     if is_other(table, m, w) {
-        let x = table::object_place(table, e);
+        let x = table.object_place(e);
         raise(need, w, last[x]);
     }
 }
 
 // What each write of q needs by the reads of p that observed it.
-fn add_over(table: &[u16], m: u8, p: &[u16], q: &[u16], need: &mut [u16])
-    requires { Needed table.now m p.now q.now (First (trace table.now) p.now) need.old }
-    ensures { Needed table.now m p.now q.now (FirstTwo (trace table.now) p.now) need.new }
+fn add_over(table: &Table, m: u8, p: &[u16], q: &[u16], need: &mut [u16])
+    requires { Needed table.now.words.now m p.now q.now (First (events table.now) p.now) need.old }
+    ensures { Needed table.now.words.now m p.now q.now (FirstTwo (events table.now) p.now) need.new }
 {
     let mut last = [0u16; Event::OBJECTS];
     for event in p {
-        let e = table::wide(*event);
+        let e = usize::from(*event);
         read_over(table, m, e, &last, need);
         note_write(table, e, &mut last);
     }
@@ -195,70 +196,70 @@ fn add_over(table: &[u16], m: u8, p: &[u16], q: &[u16], need: &mut [u16])
 
 // A section that event v of p begins ends at `ends[v]`: that is the last end on its lock so far.
 #[tactic(auto, unfolding(crate::specs::Steps::with_section))]
-fn note_section(table: &[u16], v: usize, ends: &[u16], last: &mut [u16; Event::OBJECTS])
-    requires { Linked table.now × (Valid (trace table.now) v × (length (trace table.now) < length ends.now)) }
-    ensures { last.new ≡ with_section (trace table.now) v ends.now last.old }
+fn note_section(table: &Table, v: usize, ends: &[u16], last: &mut [u16; Event::OBJECTS])
+    requires { Valid (events table.now) v × (length (events table.now) < length ends.now) }
+    ensures { last.new ≡ with_section (events table.now) v ends.now last.old }
 {
-    if table::kind_at(table, v) != Event::ACQUIRE {
+    if table.kind_at(v) != Event::ACQUIRE {
         return;
     }
-    let x = table::object_place(table, v);
+    let x = table.object_place(v);
     raise(last, x, ends[v]);
 }
 
 // The last end of p's sections on each lock.
 fn note_sections(
-    table: &[u16],
+    table: &Table,
     m: u8,
     p: &[u16],
     q: &[u16],
     ends: &[u16],
     last: &mut [u16; Event::OBJECTS],
 )
-    requires ended { Ended table.now m p.now q.now ends.now }
+    requires ended { Ended table.now.words.now m p.now q.now ends.now }
     requires last_value { last.old ≡ replicate (max_object + 1) 0 }
-    ensures { Sections (trace table.now) p.now last.new }
+    ensures { Sections (events table.now) p.now last.new }
 {
     for v in p {
-        note_section(table, table::wide(*v), ends, last);
+        note_section(table, usize::from(*v), ends, last);
     }
 }
 
 // Does event k begin a section that does not end up to the tops?
 #[tactic(auto, using(crate::proofs::OpenLaws::inner, crate::proofs::OpenLaws::outermost, crate::proofs::OpenLaws::no_section, table::proofs::LinkFacts::acquires_release), unfolding(crate::specs::Steps::is_open_in))]
-fn unended(table: &[u16], tops: &[u16; Thread::COUNT], k: usize) -> bool
-    requires { Linked table.now × Valid (trace table.now) k }
-    ensures { result ≡ is_open_in (trace table.now) tops.now k }
+fn unended(table: &Table, tops: &[u16; Thread::COUNT], k: usize) -> bool
+    requires { Valid (events table.now) k }
+    ensures { result ≡ is_open_in (events table.now) tops.now k }
 {
-    if table::kind_at(table, k) != Event::ACQUIRE || table::began_at(table, k) != k {
+    if table.kind_at(k) != Event::ACQUIRE || table.began_at(k) != k {
         return false;
     }
-    let r = table::released_at(table, k);
-    let c = table::thread_place(table, k);
-    r == 0 || table::wide(tops[c]) < r
+    let r = table.released_at(k);
+    let c = table.thread_place(k);
+    r == 0 || usize::from(tops[c]) < r
 }
 
 // Where event k of q begins such a section, it needs the last end of p's sections on its lock.
 #[tactic(auto, unfolding(crate::specs::Steps::with_open))]
 fn add_open(
-    table: &[u16],
+    table: &Table,
     tops: &[u16; Thread::COUNT],
     k: usize,
     last: &[u16; Event::OBJECTS],
     need: &mut [u16],
 )
-    requires { Linked table.now × (Valid (trace table.now) k × (length (trace table.now) < length need.old)) }
-    ensures { need.new ≡ with_open (trace table.now) tops.now k last.now need.old }
+    requires { Valid (events table.now) k × (length (events table.now) < length need.old) }
+    ensures { need.new ≡ with_open (events table.now) tops.now k last.now need.old }
 {
     if unended(table, tops, k) {
-        let x = table::object_place(table, k);
+        let x = table.object_place(k);
         raise(need, k, last[x]);
     }
 }
 
 // What each section of q that does not end up to the tops needs.
 fn add_opens(
-    table: &[u16],
+    table: &Table,
     m: u8,
     tops: &[u16; Thread::COUNT],
     p: &[u16],
@@ -266,18 +267,18 @@ fn add_opens(
     last: &[u16; Event::OBJECTS],
     need: &mut [u16],
 )
-    requires covers { Covers (trace table.now) m q.now tops.now × Sections (trace table.now) p.now last.now }
-    requires needed { Needed table.now m p.now q.now (FirstTwo (trace table.now) p.now) need.old }
-    ensures { Needed table.now m p.now q.now (Bound (trace table.now) p.now q.now) need.new }
+    requires covers { Covers (events table.now) m q.now tops.now × Sections (events table.now) p.now last.now }
+    requires needed { Needed table.now.words.now m p.now q.now (FirstTwo (events table.now) p.now) need.old }
+    ensures { Needed table.now.words.now m p.now q.now (Bound (events table.now) p.now q.now) need.new }
 {
     for k in q {
-        add_open(table, tops, table::wide(*k), last, need);
+        add_open(table, tops, usize::from(*k), last, need);
     }
 }
 
 // What each section of q that has no end needs: the last end of p's sections on its lock.
 fn add_unended(
-    table: &[u16],
+    table: &Table,
     m: u8,
     tops: &[u16; Thread::COUNT],
     p: &[u16],
@@ -285,10 +286,10 @@ fn add_unended(
     ends: &[u16],
     need: &mut [u16],
 )
-    requires ended { Ended table.now m p.now q.now ends.now }
-    requires needed { Needed table.now m p.now q.now (FirstTwo (trace table.now) p.now) need.old }
-    requires covers { Covers (trace table.now) m q.now tops.now }
-    ensures { Needed table.now m p.now q.now (Bound (trace table.now) p.now q.now) need.new }
+    requires ended { Ended table.now.words.now m p.now q.now ends.now }
+    requires needed { Needed table.now.words.now m p.now q.now (FirstTwo (events table.now) p.now) need.old }
+    requires covers { Covers (events table.now) m q.now tops.now }
+    ensures { Needed table.now.words.now m p.now q.now (Bound (events table.now) p.now q.now) need.new }
 {
     let mut last = [0u16; Event::OBJECTS];
     note_sections(table, m, p, q, ends, &mut last);
@@ -297,7 +298,7 @@ fn add_unended(
 
 // The tables of the staircase of p and q: where the intervals of p end, and what each event of q needs at least.
 pub fn fill(
-    table: &[u16],
+    table: &Table,
     m: u8,
     tops: &[u16; Thread::COUNT],
     p: &[u16],
@@ -305,9 +306,9 @@ pub fn fill(
     ends: &mut [u16],
     need: &mut [u16],
 )
-    requires { Given table.now m p.now q.now ends.old × (Given table.now m p.now q.now need.old × Covers (trace table.now) m q.now tops.now) }
-    ensures ended { Ended table.now m p.now q.now ends.new }
-    ensures needed { Needed table.now m p.now q.now (Bound (trace table.now) p.now q.now) need.new }
+    requires { Given table.now.words.now m p.now q.now ends.old × (Given table.now.words.now m p.now q.now need.old × Covers (events table.now) m q.now tops.now) }
+    ensures ended { Ended table.now.words.now m p.now q.now ends.new }
+    ensures needed { Needed table.now.words.now m p.now q.now (Bound (events table.now) p.now q.now) need.new }
 {
     add_ends(table, m, p, q, ends);
     add_first(table, m, p, q, need);

@@ -7,12 +7,13 @@ ghost use Rattle.std.specs.Prelude.{◌≡◌, [], ◌≤◌, length};
 ghost use Rattle.std.proofs.Math.Option.{none};
 ghost use Rattle.model.specs.Trace.{Valid};
 ghost use Rattle.decision.specs.Check.{is_correct, check};
-ghost use Rattle.table.specs.Table.{trace, Linked};
+ghost use Rattle.table.specs.Judged.{events};
 ghost use Rattle.checking.specs.Faults.{number_of, fault_number};
 ghost use Rattle.checking.specs.Checking.{check_in};
 ghost use Rattle.checking.specs.Passing.{Knows, NextTold, PassedTold, ReadyTold, EnabledTold, AccessTold, FaultTold, KnowsMore, Walked};
 
 use limits::{Event, Locks, Refusal, Thread};
+use table::Table;
 
 // A fault of a proposed list. `number` gives each its number in the paper.
 #[derive(Clone, Copy, PartialEq, Eq, Debug)]
@@ -51,44 +52,44 @@ impl Fault {
 }
 
 // Is event k the next of its thread?
-fn is_next(table: &[u16], last: &[u16; Thread::COUNT], k: usize) -> bool
-    requires { Linked table.now × Valid (trace table.now) k }
-    ensures { NextTold (trace table.now) last.now k result }
+fn is_next(table: &Table, last: &[u16; Thread::COUNT], k: usize) -> bool
+    requires { Valid (events table.now) k }
+    ensures { NextTold (events table.now) last.now k result }
 {
-    let c = table::thread_place(table, k);
-    table::previous_at(table, k) == table::wide(last[c])
+    let c = table.thread_place(k);
+    table.previous_at(k) == usize::from(last[c])
 }
 
 // Has event j, if it is one, been passed?
-fn has_passed(table: &[u16], last: &[u16; Thread::COUNT], j: usize) -> bool
-    requires { Linked table.now × (j ≤ length (trace table.now)) }
-    ensures { PassedTold (trace table.now) last.now j result }
+fn has_passed(table: &Table, last: &[u16; Thread::COUNT], j: usize) -> bool
+    requires { j ≤ length (events table.now) }
+    ensures { PassedTold (events table.now) last.now j result }
 {
     if j < 1 {
         return true;
     }
-    let c = table::thread_place(table, j);
-    j <= table::wide(last[c])
+    let c = table.thread_place(j);
+    j <= usize::from(last[c])
 }
 
 // Has all been passed that event k waits for: the fork of its thread and, where it is a join, the joined thread up to its last event?
-fn is_ready(table: &[u16], last: &[u16; Thread::COUNT], k: usize) -> bool
-    requires { Linked table.now × Valid (trace table.now) k }
-    ensures { ReadyTold (trace table.now) last.now k result }
+fn is_ready(table: &Table, last: &[u16; Thread::COUNT], k: usize) -> bool
+    requires { Valid (events table.now) k }
+    ensures { ReadyTold (events table.now) last.now k result }
 {
-    if !has_passed(table, last, table::forked_at(table, k)) {
+    if !has_passed(table, last, table.forked_at(k)) {
         return false;
     }
-    if table::kind_at(table, k) != Event::JOIN {
+    if table.kind_at(k) != Event::JOIN {
         return true;
     }
-    has_passed(table, last, table::waits_at(table, k))
+    has_passed(table, last, table.waits_at(k))
 }
 
 // Is event k enabled?
-fn is_enabled(table: &[u16], last: &[u16; Thread::COUNT], k: usize) -> bool
-    requires { Linked table.now × Valid (trace table.now) k }
-    ensures { EnabledTold (trace table.now) last.now k result }
+fn is_enabled(table: &Table, last: &[u16; Thread::COUNT], k: usize) -> bool
+    requires { Valid (events table.now) k }
+    ensures { EnabledTold (events table.now) last.now k result }
 {
     is_next(table, last, k) && is_ready(table, last, k)
 }
@@ -96,24 +97,24 @@ fn is_enabled(table: &[u16], last: &[u16; Thread::COUNT], k: usize) -> bool
 // The access of an event as the next of the list: a read must see what it saw in the trace, an acquire must take a
 // lock that no other thread holds.
 fn access_fault(
-    table: &[u16],
+    table: &Table,
     writes: &[u16; Event::OBJECTS],
     locks: &[u8; Event::OBJECTS],
     k: usize,
 ) -> Result<(), Fault>
-    requires { Linked table.now × Valid (trace table.now) k }
-    ensures { AccessTold (trace table.now) writes.now locks.now k result }
+    requires { Valid (events table.now) k }
+    ensures { AccessTold (events table.now) writes.now locks.now k result }
 {
-    let x = table::object_place(table, k);
-    let kind = table::kind_at(table, k);
+    let x = table.object_place(k);
+    let kind = table.kind_at(k);
     if kind == Event::READ {
-        if table::wide(writes[x]) == table::waits_at(table, k) {
+        if usize::from(writes[x]) == table.waits_at(k) {
             return Ok(());
         }
         return Err(Fault::SeesOtherwise);
     }
     if kind == Event::ACQUIRE {
-        let c = table::thread_place(table, k);
+        let c = table.thread_place(k);
         if locks[x] == 0 || locks[x] == (c + 1) as u8 {
             return Ok(());
         }
@@ -124,17 +125,16 @@ fn access_fault(
 
 // The number k as the next of the list: its fault, where it has one.
 fn fault_at(
-    table: &[u16],
+    table: &Table,
     last: &[u16; Thread::COUNT],
     writes: &[u16; Event::OBJECTS],
     locks: &[u8; Event::OBJECTS],
     k: u16,
 ) -> Result<(), Fault>
-    requires { Linked table.now }
-    ensures { FaultTold (trace table.now) last.now writes.now locks.now k result }
+    ensures { FaultTold (events table.now) last.now writes.now locks.now k result }
 {
     let at = k as usize;
-    if at < 1 || table::count(table) < at {
+    if at < 1 || table.count() < at {
         return Err(Fault::NoEvent);
     }
     if !is_next(table, last, at) {
@@ -149,19 +149,19 @@ fn fault_at(
 
 // Event k is passed. Of the releases only a last one, which is linked to itself, frees its lock.
 fn pass(
-    table: &[u16],
+    table: &Table,
     k: u16,
     last: &mut [u16; Thread::COUNT],
     writes: &mut [u16; Event::OBJECTS],
     locks: &mut [u8; Event::OBJECTS],
 )
-    requires { Linked table.now × Valid (trace table.now) k }
-    ensures { KnowsMore (trace table.now) k last.old writes.old locks.old last.new writes.new locks.new }
+    requires { Valid (events table.now) k }
+    ensures { KnowsMore (events table.now) k last.old writes.old locks.old last.new writes.new locks.new }
 {
     let at = k as usize;
-    let c = table::thread_place(table, at);
-    let x = table::object_place(table, at);
-    let kind = table::kind_at(table, at);
+    let c = table.thread_place(at);
+    let x = table.object_place(at);
+    let kind = table.kind_at(at);
     last[c] = k;
     if kind == Event::WRITE {
         writes[x] = k;
@@ -171,21 +171,21 @@ fn pass(
         locks[x] = (c + 1) as u8;
         return;
     }
-    if table::released_at(table, at) == at {
+    if table.released_at(at) == at {
         locks[x] = 0;
     }
 }
 
 // Goes through the list, up to its first fault by place. The three lists are lent as of nothing passed; where there is no fault they are then as of all passed.
 fn walk(
-    table: &[u16],
+    table: &Table,
     list: &[u16],
     last: &mut [u16; Thread::COUNT],
     writes: &mut [u16; Event::OBJECTS],
     locks: &mut [u8; Event::OBJECTS],
 ) -> Result<(), Fault>
-    requires { Linked table.now × Knows (trace table.now) [] last.old writes.old locks.old }
-    ensures { Walked (trace table.now) list.now result last.new writes.new locks.new }
+    requires { Knows (events table.now) [] last.old writes.old locks.old }
+    ensures { Walked (events table.now) list.now result last.new writes.new locks.new }
 {
     for k in list {
         fault_at(table, last, writes, locks, *k)?;
@@ -195,9 +195,8 @@ fn walk(
 }
 
 // Is the list a correct reordering?
-pub fn is_correct(table: &[u16], list: &[u16]) -> bool
-    requires { Linked table.now }
-    ensures { result ≡ is_correct (trace table.now) list.now }
+pub fn is_correct(table: &Table, list: &[u16]) -> bool
+    ensures { result ≡ is_correct (events table.now) list.now }
 {
     let mut last = [0u16; Thread::COUNT];
     let mut writes = [0u16; Event::OBJECTS];
@@ -206,10 +205,9 @@ pub fn is_correct(table: &[u16], list: &[u16]) -> bool
 }
 
 // The first fault of the list proposed for (a, b): by place, else that a or b is not enabled after it. Ok where there is none.
-fn first_fault(table: &[u16], a: u16, b: u16, list: &[u16]) -> Result<(), Fault>
-    requires linked { Linked table.now }
-    requires valid { Valid (trace table.now) a × Valid (trace table.now) b }
-    ensures { fault_number result ≡ check (trace table.now) a b list.now }
+fn first_fault(table: &Table, a: u16, b: u16, list: &[u16]) -> Result<(), Fault>
+    requires valid { Valid (events table.now) a × Valid (events table.now) b }
+    ensures { fault_number result ≡ check (events table.now) a b list.now }
 {
     let mut last = [0u16; Thread::COUNT];
     let mut writes = [0u16; Event::OBJECTS];
@@ -225,11 +223,10 @@ fn first_fault(table: &[u16], a: u16, b: u16, list: &[u16]) -> Result<(), Fault>
 }
 
 // Question 5: refusal 11, or the first fault of the list, none for yes.
-pub fn check_in(table: &[u16], a: u16, b: u16, list: &[u16]) -> Result<Option<Fault>, Refusal>
-    requires { Linked table.now }
-    ensures { result ≡ check_in none (trace table.now) a b list.now }
+pub fn check_in(table: &Table, a: u16, b: u16, list: &[u16]) -> Result<Option<Fault>, Refusal>
+    ensures { result ≡ check_in none (events table.now) a b list.now }
 {
-    if !table::conflicting(table, a, b) {
+    if !table.conflicting(a, b) {
         return Err(Refusal::NotConflicting);
     }
     Ok(first_fault(table, a, b, list).err())

@@ -7,13 +7,13 @@ ghost use Rattle.std.specs.Prelude.{◌≡◌, ◌+◌, ◌≤◌, length, get_o
 ghost use Rattle.model.specs.Trace.{Valid, thread_of};
 ghost use Rattle.model.specs.Lists.{all_but};
 ghost use Rattle.model.specs.Good.{Good, max_thread};
-ghost use Rattle.table.specs.Table.{trace};
+ghost use Rattle.table.specs.Judged.{events};
 ghost use Rattle.cone.specs.Tops.{Rooted, Told, Beyond};
 ghost use Rattle.cone.specs.Following.{has_root, Bars, Within, Coming, Raising, Answer, Raised, BringsIn, Follows, Going, Caught, Round, Behind, IsRoot, BeforeRoot, Started, Seeded};
 ghost use Rattle.cone.specs.Split.{Splits, Moved, Others, is_of, Highest};
 
 use limits::Thread;
-use table::wide;
+use table::Table;
 
 // The bar of a thread that no root is of: no event reaches it. It is a number and no `Option`, so that one comparison tells whether an event reaches a bar.
 const NO_ROOT: u16 = 65535;
@@ -23,17 +23,17 @@ fn place(list: &[u16; Thread::COUNT], c: usize) -> usize
     requires { c ≤ max_thread }
     ensures { result ≡ get_or list.now c 0 }
 {
-    wide(list[c])
+    usize::from(list[c])
 }
 
 // The root of each thread; NO_ROOT where it has none.
-fn bars_of(table: &[u16], roots: &[u16]) -> [u16; Thread::COUNT]
-    requires { Rooted table.now roots.now }
-    ensures { Bars (trace table.now) roots.now result }
+fn bars_of(table: &Table, roots: &[u16]) -> [u16; Thread::COUNT]
+    requires { Rooted table.now.words.now roots.now }
+    ensures { Bars (events table.now) roots.now result }
 {
     let mut bars = [NO_ROOT; Thread::COUNT];
     for &r in roots {
-        let c = table::thread_place(table, wide(r));
+        let c = table.thread_place(usize::from(r));
         bars[c] = r;
     }
     bars
@@ -46,7 +46,7 @@ struct RootInside;
 // What a search for a cone goes by.
 #[derive(Clone, Copy)]
 struct Search<'a> {
-    table: &'a [u16],
+    table: Table<'a>,
     // The root of each thread; NO_ROOT where it has none.
     bars: [u16; Thread::COUNT],
 }
@@ -55,22 +55,22 @@ impl Search<'_> {
     // Is event k by the thread of a root?
     #[tactic(auto, unfolding(crate::specs::Following::has_root))]
     fn has_root(&self, k: usize) -> bool
-        requires { Good (trace self.now.table.now) × Valid (trace self.now.table.now) k }
-        ensures { result ≡ has_root self.now.bars (thread_of (trace self.now.table.now) k) }
+        requires { Valid (events self.now.table) k }
+        ensures { result ≡ has_root self.now.bars (thread_of (events self.now.table) k) }
     {
-        let c = table::thread_place(self.table, k);
+        let c = self.table.thread_place(k);
         self.bars[c] != NO_ROOT
     }
 
     // Event k, if it is one, is in the cone: the top of its thread is no lower. A link of the table is 0 where there is no event.
     fn raise(&self, k: usize, tops: &mut [u16; Thread::COUNT]) -> Result<(), RootInside>
-        requires { Raising self.now.table.now self.now.bars tops.old × Coming (trace self.now.table.now) self.now.bars k }
-        ensures { Answer (trace self.now.table.now) self.now.bars (Raised (trace self.now.table.now) self.now.bars k tops.old tops.new) result }
+        requires { Raising self.now.table.words.now self.now.bars tops.old × Coming (events self.now.table) self.now.bars k }
+        ensures { Answer (events self.now.table) self.now.bars (Raised (events self.now.table) self.now.bars k tops.old tops.new) result }
     {
         if k < 1 {
             return Ok(());
         }
-        let c = table::thread_place(self.table, k);
+        let c = self.table.thread_place(k);
         if k <= place(tops, c) {
             return Ok(());
         }
@@ -89,14 +89,14 @@ impl Search<'_> {
         exempt: bool,
         tops: &mut [u16; Thread::COUNT],
     ) -> Result<(), RootInside>
-        requires { Raising self.now.table.now self.now.bars tops.old × (Within (trace self.now.table.now) self.now.bars k × (exempt ≡ has_root self.now.bars (thread_of (trace self.now.table.now) k))) }
-        ensures { Answer (trace self.now.table.now) self.now.bars (BringsIn (trace self.now.table.now) self.now.bars k tops.old tops.new) result }
+        requires { Raising self.now.table.words.now self.now.bars tops.old × (Within (events self.now.table) self.now.bars k × (exempt ≡ has_root self.now.bars (thread_of (events self.now.table) k))) }
+        ensures { Answer (events self.now.table) self.now.bars (BringsIn (events self.now.table) self.now.bars k tops.old tops.new) result }
     {
-        self.raise(table::waits_at(self.table, k), tops)?;
+        self.raise(self.table.waits_at(k), tops)?;
         if exempt {
             return Ok(());
         }
-        self.raise(table::released_at(self.table, k), tops)
+        self.raise(self.table.released_at(k), tops)
     }
 
     // The events of a thread from event `from` back to event `to`, which is left out: each brings in its own (rule ii).
@@ -106,15 +106,15 @@ impl Search<'_> {
         to: usize,
         tops: &mut [u16; Thread::COUNT],
     ) -> Result<(), RootInside>
-        requires { Raising self.now.table.now self.now.bars tops.old × Within (trace self.now.table.now) self.now.bars from }
-        ensures { Answer (trace self.now.table.now) self.now.bars (Follows (trace self.now.table.now) self.now.bars from to tops.old tops.new) result }
+        requires { Raising self.now.table.words.now self.now.bars tops.old × Within (events self.now.table) self.now.bars from }
+        ensures { Answer (events self.now.table) self.now.bars (Follows (events self.now.table) self.now.bars from to tops.old tops.new) result }
     {
         let exempt = self.has_root(from);
         let mut k = from;
         // A `while`: each step goes by the link of the event before, so there is no range or list to go over.
         while to < k {
             self.bring(k, exempt, tops)?;
-            k = table::previous_at(self.table, k);
+            k = self.table.previous_at(k);
         }
         Ok(())
     }
@@ -126,8 +126,8 @@ impl Search<'_> {
         done: &mut [u16; Thread::COUNT],
         tops: &mut [u16; Thread::COUNT],
     ) -> Result<(), RootInside>
-        requires { Going self.now.table.now self.now.bars done.old tops.old × (c ≤ max_thread) }
-        ensures { Answer (trace self.now.table.now) self.now.bars (Caught (trace self.now.table.now) self.now.bars c done.old done.new tops.old tops.new) result }
+        requires { Going self.now.table.words.now self.now.bars done.old tops.old × (c ≤ max_thread) }
+        ensures { Answer (events self.now.table) self.now.bars (Caught (events self.now.table) self.now.bars c done.old done.new tops.old tops.new) result }
     {
         let from = place(tops, c);
         let to = place(done, c);
@@ -135,7 +135,7 @@ impl Search<'_> {
             return Ok(());
         }
         done[c] = tops[c];
-        self.raise(table::forked_at(self.table, from), tops)?;
+        self.raise(self.table.forked_at(from), tops)?;
         self.follow(from, to, tops)
     }
 
@@ -145,8 +145,8 @@ impl Search<'_> {
         done: &mut [u16; Thread::COUNT],
         tops: &mut [u16; Thread::COUNT],
     ) -> Result<(), RootInside>
-        requires { Going self.now.table.now self.now.bars done.old tops.old }
-        ensures { Answer (trace self.now.table.now) self.now.bars (Round (trace self.now.table.now) self.now.bars (max_thread + 1) done.old done.new tops.old tops.new) result }
+        requires { Going self.now.table.words.now self.now.bars done.old tops.old }
+        ensures { Answer (events self.now.table) self.now.bars (Round (events self.now.table) self.now.bars (max_thread + 1) done.old done.new tops.old tops.new) result }
     {
         for c in 0..Thread::COUNT {
             self.catch_up(c, done, tops)?;
@@ -156,11 +156,11 @@ impl Search<'_> {
 
     // What must stand before root r is in the cone: the fork of its thread, and the event before it there (rule i).
     fn before_root(&self, r: usize, tops: &mut [u16; Thread::COUNT]) -> Result<(), RootInside>
-        requires { Raising self.now.table.now self.now.bars tops.old × IsRoot (trace self.now.table.now) self.now.bars r }
-        ensures { Answer (trace self.now.table.now) self.now.bars (BeforeRoot (trace self.now.table.now) self.now.bars r tops.old tops.new) result }
+        requires { Raising self.now.table.words.now self.now.bars tops.old × IsRoot (events self.now.table) self.now.bars r }
+        ensures { Answer (events self.now.table) self.now.bars (BeforeRoot (events self.now.table) self.now.bars r tops.old tops.new) result }
     {
-        self.raise(table::forked_at(self.table, r), tops)?;
-        self.raise(table::previous_at(self.table, r), tops)
+        self.raise(self.table.forked_at(r), tops)?;
+        self.raise(self.table.previous_at(r), tops)
     }
 
     // So it is, and the thread is followed from there.
@@ -170,11 +170,11 @@ impl Search<'_> {
         done: &mut [u16; Thread::COUNT],
         tops: &mut [u16; Thread::COUNT],
     ) -> Result<(), RootInside>
-        requires { Going self.now.table.now self.now.bars done.old tops.old × IsRoot (trace self.now.table.now) self.now.bars r }
-        ensures { Answer (trace self.now.table.now) self.now.bars (Started (trace self.now.table.now) self.now.bars r done.new tops.old tops.new) result }
+        requires { Going self.now.table.words.now self.now.bars done.old tops.old × IsRoot (events self.now.table) self.now.bars r }
+        ensures { Answer (events self.now.table) self.now.bars (Started (events self.now.table) self.now.bars r done.new tops.old tops.new) result }
     {
         self.before_root(r, tops)?;
-        self.catch_up(table::thread_place(self.table, r), done, tops)
+        self.catch_up(self.table.thread_place(r), done, tops)
     }
 
     // So from each root, the last one first: below the higher event of a pair the lower one is found soonest.
@@ -184,19 +184,19 @@ impl Search<'_> {
         done: &mut [u16; Thread::COUNT],
         tops: &mut [u16; Thread::COUNT],
     ) -> Result<(), RootInside>
-        requires { Going self.now.table.now self.now.bars done.old tops.old × Bars (trace self.now.table.now) roots.now self.now.bars }
-        ensures { Answer (trace self.now.table.now) self.now.bars (Seeded (trace self.now.table.now) self.now.bars roots.now 0 done.new tops.new) result }
+        requires { Going self.now.table.words.now self.now.bars done.old tops.old × Bars (events self.now.table) roots.now self.now.bars }
+        ensures { Answer (events self.now.table) self.now.bars (Seeded (events self.now.table) self.now.bars roots.now 0 done.new tops.new) result }
     {
         for &r in roots.iter().rev() {
-            self.start(wide(r), done, tops)?;
+            self.start(usize::from(r), done, tops)?;
         }
         Ok(())
     }
 
     // The whole cone: from the roots, and then in rounds, until no thread is followed less far than its top.
     fn reach(&self, roots: &[u16], tops: &mut [u16; Thread::COUNT]) -> Result<(), RootInside>
-        requires { Rooted self.now.table.now roots.now × (Bars (trace self.now.table.now) roots.now self.now.bars × (tops.old ≡ replicate (max_thread + 1) 0)) }
-        ensures { Answer (trace self.now.table.now) self.now.bars (Told (trace self.now.table.now) roots.now tops.new true) result }
+        requires { Rooted self.now.table.words.now roots.now × (Bars (events self.now.table) roots.now self.now.bars × (tops.old ≡ replicate (max_thread + 1) 0)) }
+        ensures { Answer (events self.now.table) self.now.bars (Told (events self.now.table) roots.now tops.new true) result }
     {
         let mut done = [0u16; Thread::COUNT];
         self.seed(roots, &mut done, tops)?;
@@ -216,12 +216,12 @@ fn behind(done: &[u16; Thread::COUNT], tops: &[u16; Thread::COUNT]) -> bool
 
 // Is no root in the causal cone of the roots? Then the tops are how far it reaches into each thread; they are lent as 0.
 #[tactic(auto, using(crate::proofs::OutsideLaws::told))]
-pub fn outside(table: &[u16], roots: &[u16], tops: &mut [u16; Thread::COUNT]) -> bool
-    requires { Rooted table.now roots.now × (tops.old ≡ replicate (max_thread + 1) 0) }
-    ensures { Told (trace table.now) roots.now tops.new result }
+pub fn outside(table: &Table, roots: &[u16], tops: &mut [u16; Thread::COUNT]) -> bool
+    requires { Rooted table.now.words.now roots.now × (tops.old ≡ replicate (max_thread + 1) 0) }
+    ensures { Told (events table.now) roots.now tops.new result }
 {
     let search = Search {
-        table,
+        table: *table,
         bars: bars_of(table, roots),
     };
     search.reach(roots, tops).is_ok()
@@ -238,9 +238,9 @@ pub fn beyond(tops: &[u16; Thread::COUNT], m: u8, n: u8) -> bool
 }
 
 // Thread m's events up to its top, found from the last one back, so they are put at the end of out, in the trace's order. Gives the place of the first.
-pub fn moved(table: &[u16], m: u8, tops: &[u16; Thread::COUNT], out: &mut [u16]) -> usize
-    requires { Splits table.now tops.now m out.old }
-    ensures { Moved (trace table.now) m tops.now result out.new }
+pub fn moved(table: &Table, m: u8, tops: &[u16; Thread::COUNT], out: &mut [u16]) -> usize
+    requires { Splits table.now.words.now tops.now m out.old }
+    ensures { Moved (events table.now) m tops.now result out.new }
 {
     let mut r = out.len();
     let mut k = place(tops, usize::from(m));
@@ -248,18 +248,18 @@ pub fn moved(table: &[u16], m: u8, tops: &[u16; Thread::COUNT], out: &mut [u16])
     while 0 < k {
         r -= 1;
         out[r] = k as u16;
-        k = table::previous_at(table, k);
+        k = table.previous_at(k);
     }
     r
 }
 
 // Is event k up to the top of its thread, and by another thread than m?
 #[tactic(auto, unfolding(crate::specs::Split::is_of, crate::specs::Split::is_under, model::specs::Lists::all_but, model::specs::Lists::just))]
-fn is_other(table: &[u16], m: u8, tops: &[u16; Thread::COUNT], k: usize) -> bool
-    requires { Good (trace table.now) × Valid (trace table.now) k }
-    ensures { result ≡ is_of (trace table.now) (all_but m) tops.now k }
+fn is_other(table: &Table, m: u8, tops: &[u16; Thread::COUNT], k: usize) -> bool
+    requires { Valid (events table.now) k }
+    ensures { result ≡ is_of (events table.now) (all_but m) tops.now k }
 {
-    let c = table::thread_place(table, k);
+    let c = table.thread_place(k);
     c != usize::from(m) && k <= place(tops, c)
 }
 
@@ -270,15 +270,15 @@ fn highest(tops: &[u16; Thread::COUNT]) -> usize
 {
     let mut n = 0;
     for &top in tops {
-        n = wide(top).max(n);
+        n = usize::from(top).max(n);
     }
     n
 }
 
 // The events of all threads but m up to their tops, in the front of out, in the trace's order. Gives how many there are.
-pub fn others(table: &[u16], m: u8, tops: &[u16; Thread::COUNT], out: &mut [u16]) -> usize
-    requires { Splits table.now tops.now m out.old }
-    ensures { Others (trace table.now) m tops.now result out.new }
+pub fn others(table: &Table, m: u8, tops: &[u16; Thread::COUNT], out: &mut [u16]) -> usize
+    requires { Splits table.now.words.now tops.now m out.old }
+    ensures { Others (events table.now) m tops.now result out.new }
 {
     let mut r = 0;
     for k in 1..highest(tops) + 1 {

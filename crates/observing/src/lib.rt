@@ -3,11 +3,12 @@
 
 ghost use Rattle.std.specs.Prelude.{◌≡◌};
 ghost use Rattle.std.proofs.Math.Option.{none};
-ghost use Rattle.table.specs.Table.{trace, Linked};
+ghost use Rattle.table.specs.Judged.{events};
 ghost use Rattle.observing.specs.Observing.{observed_in};
 ghost use Rattle.observing.specs.Entries.{answer_of, entry_at, observations_in};
 
 use limits::{Event, Refusal};
+use table::Table;
 
 // The answer to question 2: the number of the write that the event sees, the start, or that it is not a read.
 #[derive(Clone, Copy, PartialEq, Eq, Debug)]
@@ -34,34 +35,31 @@ pub fn answer_of(entry: u16) -> Observed
 
 // The entry of number k, whatever k is.
 #[tactic(auto, using(model::proofs::Tests::kind_valid, table::proofs::LinkFacts::reads_observed, crate::proofs::EntriesLaws::observed_small), unfolding(crate::specs::Entries::entry_at))]
-fn entry_at(table: &[u16], k: usize) -> u16
-    requires { Linked table.now }
-    ensures { result ≡ entry_at (trace table.now) k }
+fn entry_at(table: &Table, k: usize) -> u16
+    ensures { result ≡ entry_at (events table.now) k }
 {
-    if k < 1 || table::count(table) < k {
+    if k < 1 || table.count() < k {
         return NOT_A_READ;
     }
-    if table::kind_at(table, k) != Event::READ {
+    if table.kind_at(k) != Event::READ {
         return NOT_A_READ;
     }
-    table::waits_at(table, k) as u16
+    table.waits_at(k) as u16
 }
 
 // The observed write of event k, whatever k is.
 #[tactic(auto, using(crate::proofs::EntriesLaws::entry_answers))]
-pub fn observed_in(table: &[u16], k: u16) -> Observed
-    requires { Linked table.now }
-    ensures { result ≡ observed_in (trace table.now) k }
+pub fn observed_in(table: &Table, k: u16) -> Observed
+    ensures { result ≡ observed_in (events table.now) k }
 {
     answer_of(entry_at(table, k as usize))
 }
 
 // The observed writes of all events: entry k of the lent list is the answer for number k, from 0 on. Gives how many events have their entry.
-pub fn observations_in(table: &[u16], list: &mut [u16]) -> Result<u16, Refusal>
-    requires { Linked table.now }
-    ensures { (result, list.new) ≡ observations_in none (trace table.now) list.old }
+pub fn observations_in(table: &Table, list: &mut [u16]) -> Result<u16, Refusal>
+    ensures { (result, list.new) ≡ observations_in none (events table.now) list.old }
 {
-    let n = table::count(table);
+    let n = table.count();
     if list.len() <= n {
         return Err(Refusal::ListShort);
     }

@@ -7,12 +7,13 @@ ghost use Rattle.model.specs.Lists.{in_front};
 ghost use Rattle.model.specs.Good.{max_thread};
 ghost use Rattle.decision.specs.Stairs.{least_merge};
 ghost use Rattle.decision.specs.Decision.{is_conflicting, witness, next_race};
-ghost use Rattle.table.specs.Table.{trace};
+ghost use Rattle.table.specs.Judged.{events};
 ghost use Rattle.races.specs.Witness.{WitnessRoom, Shows};
 ghost use Rattle.races.specs.Engine.{Joinable, Mergeable, Coned, if_correct, shown_of};
 ghost use Rattle.races.specs.Next.{Hands, HandsWith, witness_of};
 
 use limits::{Recording, Thread};
+use table::Table;
 
 // A race, with the length of its witness.
 #[derive(Clone, Copy)]
@@ -23,9 +24,9 @@ pub struct Race {
 }
 
 // The merge of p, the moved thread's events, and q, the others', by their least staircase: in the front of a list.
-fn merge(table: &[u16], m: u8, tops: &[u16; Thread::COUNT], p: &[u16], q: &[u16], out: &mut [u16])
-    requires { Mergeable table.now m tops.now p.now q.now out.old }
-    ensures { out.new ≡ in_front (least_merge (trace table.now) p.now q.now) out.old }
+fn merge(table: &Table, m: u8, tops: &[u16; Thread::COUNT], p: &[u16], q: &[u16], out: &mut [u16])
+    requires { Mergeable table.now.words.now m tops.now p.now q.now out.old }
+    ensures { out.new ≡ in_front (least_merge (events table.now) p.now q.now) out.old }
 {
     let mut ends = [0u16; Recording::PLACES];
     let mut need = [0u16; Recording::PLACES];
@@ -36,9 +37,9 @@ fn merge(table: &[u16], m: u8, tops: &[u16; Thread::COUNT], p: &[u16], q: &[u16]
 
 // The merge is the witness where it is a correct reordering: the least staircase has what must stand before, and this asks for what must not.
 #[tactic(auto, unfolding(crate::specs::Engine::if_correct, model::specs::Lists::in_front))]
-fn show(table: &[u16], merged: &[u16], list: &mut [u16]) -> Option<u16>
-    requires { WitnessRoom table.now list.old × (length merged.now ≤ length (trace table.now)) }
-    ensures { Shows (if_correct (trace table.now) merged.now) list.old list.new result }
+fn show(table: &Table, merged: &[u16], list: &mut [u16]) -> Option<u16>
+    requires { WitnessRoom table.now.words.now list.old × (length merged.now ≤ length (events table.now)) }
+    ensures { Shows (if_correct (events table.now) merged.now) list.old list.new result }
 {
     if !checking::is_correct(table, merged) {
         return None;
@@ -49,15 +50,15 @@ fn show(table: &[u16], merged: &[u16], list: &mut [u16]) -> Option<u16>
 
 // The witness by the two lists.
 fn join(
-    table: &[u16],
+    table: &Table,
     m: u8,
     tops: &[u16; Thread::COUNT],
     p: &[u16],
     q: &[u16],
     list: &mut [u16],
 ) -> Option<u16>
-    requires { WitnessRoom table.now list.old × Joinable table.now m tops.now p.now q.now }
-    ensures { Shows (if_correct (trace table.now) (least_merge (trace table.now) p.now q.now)) list.old list.new result }
+    requires { WitnessRoom table.now.words.now list.old × Joinable table.now.words.now m tops.now p.now q.now }
+    ensures { Shows (if_correct (events table.now) (least_merge (events table.now) p.now q.now)) list.old list.new result }
 {
     let mut merged = [0u16; Recording::MAX_EVENTS];
     merge(table, m, tops, p, q, &mut merged);
@@ -66,9 +67,9 @@ fn join(
 }
 
 // The witness by the cone, which reaches up to the tops, with thread m as the moved thread.
-fn split(table: &[u16], m: u8, tops: &[u16; Thread::COUNT], list: &mut [u16]) -> Option<u16>
-    requires { WitnessRoom table.now list.old × (Coned (trace table.now) tops.now × (m ≤ max_thread)) }
-    ensures { Shows (shown_of (trace table.now) m tops.now) list.old list.new result }
+fn split(table: &Table, m: u8, tops: &[u16; Thread::COUNT], list: &mut [u16]) -> Option<u16>
+    requires { WitnessRoom table.now.words.now list.old × (Coned (events table.now) tops.now × (m ≤ max_thread)) }
+    ensures { Shows (shown_of (events table.now) m tops.now) list.old list.new result }
 {
     let mut moved = [0u16; Recording::MAX_EVENTS];
     let from = cone::moved(table, m, tops, &mut moved);
@@ -78,37 +79,37 @@ fn split(table: &[u16], m: u8, tops: &[u16; Thread::COUNT], list: &mut [u16]) ->
 }
 
 // The witness of a conflicting pair, in the front of the lent list. No pair is reported with a or b in its cone.
-pub fn witness(table: &[u16], a: u16, b: u16, list: &mut [u16]) -> Option<u16>
-    requires { WitnessRoom table.now list.old × (is_conflicting (trace table.now) a b ≡ true) }
-    ensures { Shows (witness (trace table.now) a b) list.old list.new result }
+pub fn witness(table: &Table, a: u16, b: u16, list: &mut [u16]) -> Option<u16>
+    requires { WitnessRoom table.now.words.now list.old × (is_conflicting (events table.now) a b ≡ true) }
+    ensures { Shows (witness (events table.now) a b) list.old list.new result }
 {
     let roots = [a, b];
     let mut tops = [0u16; Thread::COUNT];
     if !cone::outside(table, &roots, &mut tops) {
         return None;
     }
-    let m = table::thread_at(table, a as usize);
+    let m = table.thread_at(a as usize);
     split(table, m, &tops, list)
 }
 
 // The witness of two numbers, where they are a conflicting pair.
 #[tactic(auto, unfolding(crate::specs::Next::witness_of))]
-fn race_on(table: &[u16], a: u16, b: u16, list: &mut [u16]) -> Option<u16>
-    requires { WitnessRoom table.now list.old }
-    ensures { Shows (witness_of (trace table.now) a b) list.old list.new result }
+fn race_on(table: &Table, a: u16, b: u16, list: &mut [u16]) -> Option<u16>
+    requires { WitnessRoom table.now.words.now list.old }
+    ensures { Shows (witness_of (events table.now) a b) list.old list.new result }
 {
-    if !table::conflicting(table, a, b) {
+    if !table.conflicting(a, b) {
         return None;
     }
     witness(table, a, b, list)
 }
 
 // The first race with a as its lower event and a higher one above b.
-fn next_with(table: &[u16], a: u16, b: u16, list: &mut [u16]) -> Option<Race>
-    requires { WitnessRoom table.now list.old }
-    ensures { HandsWith (trace table.now) a b list.old list.new result }
+fn next_with(table: &Table, a: u16, b: u16, list: &mut [u16]) -> Option<Race>
+    requires { WitnessRoom table.now.words.now list.old }
+    ensures { HandsWith (events table.now) a b list.old list.new result }
 {
-    for y in b as usize + 1..=table::count(table) {
+    for y in b as usize + 1..=table.count() {
         let higher = y as u16;
         if let Some(length) = race_on(table, a, higher, list) {
             return Some(Race {
@@ -122,12 +123,12 @@ fn next_with(table: &[u16], a: u16, b: u16, list: &mut [u16]) -> Option<Race>
 }
 
 // The first race after (a, b): by lower event, then by higher.
-pub fn next_race(table: &[u16], a: u16, b: u16, list: &mut [u16]) -> Option<Race>
-    requires { WitnessRoom table.now list.old }
-    ensures { Hands (next_race (trace table.now) a b) list.old list.new result }
+pub fn next_race(table: &Table, a: u16, b: u16, list: &mut [u16]) -> Option<Race>
+    requires { WitnessRoom table.now.words.now list.old }
+    ensures { Hands (next_race (events table.now) a b) list.old list.new result }
 {
     let mut after = b;
-    for x in a as usize..=table::count(table) {
+    for x in a as usize..=table.count() {
         let lower = x as u16;
         if let Some(race) = next_with(table, lower, after, list) {
             return Some(race);

@@ -7,25 +7,25 @@ ghost use Rattle.model.specs.Trace.{Valid};
 ghost use Rattle.model.specs.Lists.{in_front};
 ghost use Rattle.model.specs.Good.{Good};
 ghost use Rattle.decision.specs.Stairs.{climb};
-ghost use Rattle.table.specs.Table.{trace, Linked};
+ghost use Rattle.table.specs.Judged.{events};
 ghost use Rattle.stairs.specs.Stairs.{at, slot_of, slots, Ready, Solved};
 ghost use Rattle.stairs.specs.Passes.{Moved, Noted, Upto, Reached, Met, Begun, asked, Pulled, Passed, is_moved_next, Climbing};
 
 use limits::Event;
-use table::wide;
+use table::Table;
 
 // A place for each cell and, behind them, for each lock.
 const SLOTS: usize = 2 * Event::OBJECTS;
 
 // The slot of the interval that event k begins.
 #[tactic(auto, unfolding(crate::specs::Stairs::slot_of))]
-fn slot(table: &[u16], k: usize) -> usize
-    requires { Good (trace table.now) × Valid (trace table.now) k }
-    ensures value { result ≡ slot_of (trace table.now) k }
+fn slot(table: &Table, k: usize) -> usize
+    requires { Valid (events table.now) k }
+    ensures value { result ≡ slot_of (events table.now) k }
     ensures upper_bound { result < slots }
 {
-    let x = table::object_place(table, k);
-    if table::kind_at(table, k) == Event::ACQUIRE {
+    let x = table.object_place(k);
+    if table.kind_at(k) == Event::ACQUIRE {
         return Event::OBJECTS + x;
     }
     x
@@ -33,10 +33,10 @@ fn slot(table: &[u16], k: usize) -> usize
 
 // Event v of p passes: its slot is reached up to the end of the interval that it begins.
 #[tactic(auto, using(crate::proofs::SlotLaws::note_none, crate::proofs::SlotLaws::note_up))]
-fn note(table: &[u16], ends: &[u16], reach: &mut [u16; SLOTS], v: usize)
-    requires good { Good (trace table.now) × Valid (trace table.now) v }
+fn note(table: &Table, ends: &[u16], reach: &mut [u16; SLOTS], v: usize)
+    requires good { Valid (events table.now) v }
     requires v_in_bounds { (v < length ends.now) × (length reach.old ≡ slots) }
-    ensures { Noted (trace table.now) ends.now v reach.old reach.new }
+    ensures { Noted (events table.now) ends.now v reach.old reach.new }
 {
     let end = ends[v];
     if end == 0 {
@@ -48,21 +48,21 @@ fn note(table: &[u16], ends: &[u16], reach: &mut [u16; SLOTS], v: usize)
 
 // The events of p from place `from` on that are not above event `to` pass. Gives the place of the first that is.
 fn advance(
-    table: &[u16],
+    table: &Table,
     p: &[u16],
     ends: &[u16],
     reach: &mut [u16; SLOTS],
     from: usize,
     to: u16,
 ) -> usize
-    requires { Moved table.now p.now ends.now × Upto (trace table.now) p.now ends.now from to reach.old }
-    ensures { Reached (trace table.now) p.now ends.now result to reach.new }
+    requires { Moved table.now.words.now p.now ends.now × Upto (events table.now) p.now ends.now from to reach.old }
+    ensures { Reached (events table.now) p.now ends.now result to reach.new }
 {
     for i in from..p.len() {
         if to < p[i] {
             return i;
         }
-        note(table, ends, reach, wide(p[i]));
+        note(table, ends, reach, usize::from(p[i]));
     }
     p.len()
 }
@@ -79,12 +79,12 @@ fn meet(need: &mut [u16], k: usize, n: u16) -> u16
 
 // Where the interval of event k of q begins, if it has one that does not begin in thread m.
 #[tactic(auto, using(crate::proofs::RuleLaws::begun_valid, crate::proofs::RuleLaws::begun_none, crate::proofs::RuleLaws::begun_moved, crate::proofs::RuleLaws::begun_outside))]
-fn begun(table: &[u16], m: u8, k: usize) -> Option<usize>
-    requires { Linked table.now × Valid (trace table.now) k }
-    ensures { Begun (trace table.now) m k result }
+fn begun(table: &Table, m: u8, k: usize) -> Option<usize>
+    requires { Valid (events table.now) k }
+    ensures { Begun (events table.now) m k result }
 {
-    let o = table::began_at(table, k);
-    if o == 0 || table::thread_at(table, o) == m {
+    let o = table.began_at(k);
+    if o == 0 || table.thread_at(o) == m {
         return None;
     }
     Some(o)
@@ -92,9 +92,9 @@ fn begun(table: &[u16], m: u8, k: usize) -> Option<usize>
 
 // What the slot of event o is reached up to.
 #[tactic(auto, unfolding(crate::specs::Passes::asked))]
-fn asked(table: &[u16], reach: &[u16; SLOTS], o: usize) -> u16
-    requires { Good (trace table.now) × Valid (trace table.now) o }
-    ensures { result ≡ asked (trace table.now) reach.now o }
+fn asked(table: &Table, reach: &[u16; SLOTS], o: usize) -> u16
+    requires { Valid (events table.now) o }
+    ensures { result ≡ asked (events table.now) reach.now o }
 {
     reach[slot(table, o)]
 }
@@ -113,9 +113,9 @@ fn pull(need: &mut [u16], o: usize, most: u16, raised: bool) -> bool
 }
 
 // Once along q. An event before which p has to pass further is met again. Was anything raised that has to be walked again?
-fn pass(table: &[u16], m: u8, p: &[u16], q: &[u16], ends: &[u16], need: &mut [u16]) -> bool
-    requires { Ready table.now m p.now q.now ends.now need.old }
-    ensures { Passed (trace table.now) m p.now q.now ends.now need.old result need.new }
+fn pass(table: &Table, m: u8, p: &[u16], q: &[u16], ends: &[u16], need: &mut [u16]) -> bool
+    requires { Ready table.now.words.now m p.now q.now ends.now need.old }
+    ensures { Passed (events table.now) m p.now q.now ends.now need.old result need.new }
 {
     let mut reach = [0u16; SLOTS];
     let mut i = 0;
@@ -124,7 +124,7 @@ fn pass(table: &[u16], m: u8, p: &[u16], q: &[u16], ends: &[u16], need: &mut [u1
     let mut j = 0;
     // A `while`: an event may be met again, so not each turn goes on to the next place.
     while j < q.len() {
-        let k = wide(q[j]);
+        let k = usize::from(q[j]);
         n = meet(need, k, n);
         i = advance(table, p, ends, &mut reach, i, n);
         if let Some(o) = begun(table, m, k) {
@@ -141,9 +141,9 @@ fn pass(table: &[u16], m: u8, p: &[u16], q: &[u16], ends: &[u16], need: &mut [u1
 }
 
 // What is needed at least becomes the least staircase: passes, until one raises nothing.
-pub fn solve(table: &[u16], m: u8, p: &[u16], q: &[u16], ends: &[u16], need: &mut [u16])
-    requires { Ready table.now m p.now q.now ends.now need.old }
-    ensures { Solved (trace table.now) m p.now q.now ends.now need.old need.new }
+pub fn solve(table: &Table, m: u8, p: &[u16], q: &[u16], ends: &[u16], need: &mut [u16])
+    requires { Ready table.now.words.now m p.now q.now ends.now need.old }
+    ensures { Solved (events table.now) m p.now q.now ends.now need.old need.new }
 {
     while pass(table, m, p, q, ends, need) {}
 }
@@ -154,7 +154,7 @@ fn moved_next(p: &[u16], q: &[u16], need: &[u16], i: usize, j: usize) -> bool
     requires { j < length q.now → at q.now j < length need.now }
     ensures { result ≡ is_moved_next (at need.now) p.now q.now i j }
 {
-    i < p.len() && (q.len() <= j || p[i] <= need[wide(q[j])])
+    i < p.len() && (q.len() <= j || p[i] <= need[usize::from(q[j])])
 }
 
 // The merge of p and q by the staircase, in front of the lent list; the rest of the list stays.

@@ -4,12 +4,13 @@
 ghost use Rattle.std.specs.Prelude.{◌≡◌};
 ghost use Rattle.std.proofs.Math.Option.{none};
 ghost use Rattle.decision.specs.Decision.{witness, next_race};
-ghost use Rattle.table.specs.Table.{trace, Linked};
+ghost use Rattle.table.specs.Judged.{events};
 ghost use Rattle.verdicts.specs.Verdict.{verdict_in};
 ghost use Rattle.verdicts.specs.Next.{next_in};
 ghost use Rattle.verdicts.specs.Deciding.{Askable, Decidable, Decides, Searchable, Finds};
 
 use limits::{Recording, Refusal};
+use table::Table;
 
 // A pair of events, by their numbers.
 #[derive(Clone, Copy)]
@@ -19,9 +20,9 @@ pub struct Pair {
 }
 
 // The length of the witness of (a, b), if it is reported, with a work area of just the bytes that are promised to be zero after it.
-fn decide(table: &[u16], a: u16, b: u16, list: &mut [u16], area: &mut [u8]) -> Option<u16>
-    requires { Decidable table.now a b list.old area.old }
-    ensures { Decides (witness (trace table.now) a b) list.old list.new area.old area.new result }
+fn decide(table: &Table, a: u16, b: u16, list: &mut [u16], area: &mut [u8]) -> Option<u16>
+    requires { Decidable table.now.words.now a b list.old area.old }
+    ensures { Decides (witness (events table.now) a b) list.old list.new area.old area.new result }
 {
     bits::clear(area);
     races::witness(table, a, b, list)
@@ -30,14 +31,14 @@ fn decide(table: &[u16], a: u16, b: u16, list: &mut [u16], area: &mut [u8]) -> O
 // Refusal 12, and the verdict.
 #[tactic(auto, unfolding(crate::specs::Verdict::verdict_in))]
 fn verdict_with(
-    table: &[u16],
+    table: &Table,
     a: u16,
     b: u16,
     list: &mut [u16],
     area: &mut [u8],
 ) -> Result<Option<u16>, Refusal>
-    requires { Askable table.now a b list.old }
-    ensures { (result, list.new, area.new) ≡ verdict_in none (trace table.now) a b list.old area.old }
+    requires { Askable table.now.words.now a b list.old }
+    ensures { (result, list.new, area.new) ≡ verdict_in none (events table.now) a b list.old area.old }
 {
     if !Recording::area_suffices(area.len()) {
         return Err(Refusal::AreaShort);
@@ -48,28 +49,27 @@ fn verdict_with(
 // Refusals 11, 10 and 12, in their order, and the answer to question 3: the length of the witness, if (a, b) is reported.
 #[tactic(auto, unfolding(crate::specs::Verdict::verdict_in))]
 pub fn verdict_in(
-    table: &[u16],
+    table: &Table,
     a: u16,
     b: u16,
     list: &mut [u16],
     area: &mut [u8],
 ) -> Result<Option<u16>, Refusal>
-    requires { Linked table.now }
-    ensures { (result, list.new, area.new) ≡ verdict_in none (trace table.now) a b list.old area.old }
+    ensures { (result, list.new, area.new) ≡ verdict_in none (events table.now) a b list.old area.old }
 {
-    if !table::conflicting(table, a, b) {
+    if !table.conflicting(a, b) {
         return Err(Refusal::NotConflicting);
     }
-    if list.len() < table::count(table) {
+    if list.len() < table.count() {
         return Err(Refusal::ListShort);
     }
     verdict_with(table, a, b, list, area)
 }
 
 // The first race after (a, b), with a work area of just the bytes that are promised to be zero after it.
-fn find_next(table: &[u16], a: u16, b: u16, area: &mut [u8]) -> Option<Pair>
-    requires { Searchable table.now area.old }
-    ensures { Finds (next_race (trace table.now) a b) area.old area.new result }
+fn find_next(table: &Table, a: u16, b: u16, area: &mut [u8]) -> Option<Pair>
+    requires { Searchable table.now.words.now area.old }
+    ensures { Finds (next_race (events table.now) a b) area.old area.new result }
 {
     bits::clear(area);
     let mut list = [0u16; Recording::MAX_EVENTS];
@@ -81,9 +81,8 @@ fn find_next(table: &[u16], a: u16, b: u16, area: &mut [u8]) -> Option<Pair>
 
 // Refusal 12, and the answer to question 4: the first race after (a, b), if there is one.
 #[tactic(auto, unfolding(crate::specs::Next::next_in))]
-pub fn next_in(table: &[u16], a: u16, b: u16, area: &mut [u8]) -> Result<Option<Pair>, Refusal>
-    requires { Linked table.now }
-    ensures { (result, area.new) ≡ next_in none (trace table.now) a b area.old }
+pub fn next_in(table: &Table, a: u16, b: u16, area: &mut [u8]) -> Result<Option<Pair>, Refusal>
+    ensures { (result, area.new) ≡ next_in none (events table.now) a b area.old }
 {
     if !Recording::area_suffices(area.len()) {
         return Err(Refusal::AreaShort);

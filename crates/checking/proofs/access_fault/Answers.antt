@@ -3,8 +3,8 @@ use Rattle.checking.proofs.PassLaws.{sees-same, sees-other, lock_free, lock-own,
 use Rattle.checking.proofs.access_fault.Goals as goal
 use Rattle.checking.proofs.access_fault.Goals.{then-locks-x-eq0-via-then-locks-x-eq0, then-locks-x-eq0-via-else-locks-x-eq0+then-locks-x}
 
-pub returns-then-wide-waits_at : goal.returns-then-wide-waits_at
-returns-then-wide-waits_at c = search (sees-same, rules)
+pub returns-then-from-waits_at : goal.returns-then-from-waits_at
+returns-then-from-waits_at c = search (sees-same, rules)
 
 pub returns-then-kind-eq-READ : goal.returns-then-kind-eq-READ
 returns-then-kind-eq-READ c = search sees-other

@@ -19,17 +19,17 @@ pub returns : goal.returns
 returns c = search (passed, rules)
 
 pub asked-most-requires : goal.asked-most-requires
-asked-most-requires c = (search rules, turn_begun c.requires c.loop-j.invariant c.loop-j-test.true _ c.wide-k.ensures.value c.meet-n.ensures c.in-Some.ensures)
+asked-most-requires c = turn_begun c.requires c.loop-j.invariant c.loop-j-test.true _ c.from-k.ensures c.meet-n.ensures c.in-Some.ensures
 
 pub loop-j-preserved-then-n-most : goal.loop-j-preserved-then-n-most
 loop-j-preserved-then-n-most c =
     passing_again c.requires c.loop-j.invariant c.loop-j-test.true _
-    c.wide-k.ensures.value c.meet-n.ensures c.in-Some.ensures (search rules) c.advance-i.ensures c.asked-most.ensures c.if-n-most.true (search rules)
+    c.from-k.ensures c.meet-n.ensures c.in-Some.ensures (search rules) c.advance-i.ensures c.asked-most.ensures c.if-n-most.true (search rules)
 
 pub pull-raised-requires : goal.pull-raised-requires
 pull-raised-requires c =
     turn_pull c.requires c.loop-j.invariant c.loop-j-test.true _
-    c.wide-k.ensures.value c.meet-n.ensures c.in-Some.ensures
+    c.from-k.ensures c.meet-n.ensures c.in-Some.ensures
 
 pub loop-j-preserved : goal.loop-j-preserved
 loop-j-preserved c =
@@ -37,9 +37,9 @@ loop-j-preserved c =
       | in-Some+else-n-most w ↦
           rw (w.need-is, w.raised-is)
           (passing_turn c.requires c.loop-j.invariant c.loop-j-test.true _
-          c.wide-k.ensures.value c.meet-n.ensures w.in-Some.ensures (search rules) c.advance-i.ensures w.asked-most.ensures w.pull-raised.ensures)
+          c.from-k.ensures c.meet-n.ensures w.in-Some.ensures (search rules) c.advance-i.ensures w.asked-most.ensures w.pull-raised.ensures)
       | in_default w ↦
           rw (w.need-is, w.raised-is)
           (passing_none c.requires c.loop-j.invariant c.loop-j-test.true _
-          c.wide-k.ensures.value c.meet-n.ensures w.in_default.ensures (search rules) c.advance-i.ensures)
+          c.from-k.ensures c.meet-n.ensures w.in_default.ensures (search rules) c.advance-i.ensures)
     ]
