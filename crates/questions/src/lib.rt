@@ -11,6 +11,7 @@ ghost use Rattle.questions.specs.Note.{whole, answer_noted, answer_note};
 pub use checking::Fault;
 use limits::Refusal;
 pub use observing::{Observed, answer_of};
+use table::Table;
 pub use verdicts::Pair;
 pub use writing::write_file;
 
@@ -27,10 +28,10 @@ pub fn judge(file: &[u8]) -> Result<Counts, Refusal>
 {
     let mut rows = [0u16; table::ROOM];
     let n = opening::table_of(file, &mut rows)?;
-    let rows = &rows[..n];
+    let table = Table { words: &rows[..n] };
     Ok(Counts {
-        events: table::count(rows) as u16,
-        threads: table::threads(rows),
+        events: table.count() as u16,
+        threads: table.threads(),
     })
 }
 
@@ -40,7 +41,8 @@ pub fn observed_write(file: &[u8], k: u16) -> Result<Observed, Refusal>
 {
     let mut rows = [0u16; table::ROOM];
     let n = opening::table_of(file, &mut rows)?;
-    Ok(observing::observed_in(&rows[..n], k))
+    let table = Table { words: &rows[..n] };
+    Ok(observing::observed_in(&table, k))
 }
 
 // Question 2 for all events at once: entry k of the lent list is the answer for number k, from 0 on, and `answer_of` says which one. Gives how many
@@ -50,7 +52,8 @@ pub fn observed_writes(file: &[u8], list: &mut [u16]) -> Result<u16, Refusal>
 {
     let mut rows = [0u16; table::ROOM];
     let n = opening::table_of(file, &mut rows)?;
-    observing::observations_in(&rows[..n], list)
+    let table = Table { words: &rows[..n] };
+    observing::observations_in(&table, list)
 }
 
 // Question 3: is (a, b) reported, and by which witness? The witness is put in the front of the lent list; gives its length.
@@ -65,7 +68,8 @@ pub fn verdict(
 {
     let mut rows = [0u16; table::ROOM];
     let n = opening::table_of(file, &mut rows)?;
-    verdicts::verdict_in(&rows[..n], a, b, list, area)
+    let table = Table { words: &rows[..n] };
+    verdicts::verdict_in(&table, a, b, list, area)
 }
 
 // Question 4: which is the first race after (a, b), by lower event, then by higher?
@@ -74,7 +78,8 @@ pub fn next_race(file: &[u8], a: u16, b: u16, area: &mut [u8]) -> Result<Option<
 {
     let mut rows = [0u16; table::ROOM];
     let n = opening::table_of(file, &mut rows)?;
-    verdicts::next_in(&rows[..n], a, b, area)
+    let table = Table { words: &rows[..n] };
+    verdicts::next_in(&table, a, b, area)
 }
 
 // Question 5: is the list a correct reordering that brings both a and b next? Gives its first fault, none for yes.
@@ -83,7 +88,8 @@ pub fn check_reordering(file: &[u8], a: u16, b: u16, list: &[u16]) -> Result<Opt
 {
     let mut rows = [0u16; table::ROOM];
     let n = opening::table_of(file, &mut rows)?;
-    checking::check_in(&rows[..n], a, b, list)
+    let table = Table { words: &rows[..n] };
+    checking::check_in(&table, a, b, list)
 }
 
 // Question 6, by where the note stands: it is the first so many bytes of the file, none of a refused one. None: it is the operator's own.

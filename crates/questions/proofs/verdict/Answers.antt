@@ -6,11 +6,11 @@ use Rattle.questions.proofs.verdict.Goals as goal
 pub slice_bounds-rows-end : goal.slice_bounds-rows-end
 slice_bounds-rows-end c = search (opened_within, c.in_ok-n.ensures, rules)
 
-pub slice_bounds-verdict_in-end : goal.slice_bounds-verdict_in-end
-slice_bounds-verdict_in-end c = search (opened_long, c.in_ok-n.ensures, rules)
+pub slice_bounds-table-end : goal.slice_bounds-table-end
+slice_bounds-table-end c = search (opened_long, c.in_ok-n.ensures, rules)
 
-pub verdict_in-requires : goal.verdict_in-requires
-verdict_in-requires c = search (opened_linked, c.in_ok-n.ensures, rules)
+pub invariant_of-table : goal.invariant_of-table
+invariant_of-table c = record { links = search (opened_linked, c.in_ok-n.ensures, rules) }
 
 pub returns-in_err-n : goal.returns-in_err-n
 returns-in_err-n c = search (refused_verdict, c.in_err-n.ensures, rules)
