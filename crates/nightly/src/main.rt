@@ -8,6 +8,7 @@ use limits::Recording;
 use report::Position;
 use std::io;
 use std::io::ErrorKind;
+use table::Table;
 
 // One byte more than a file may have is enough to refuse it.
 const INPUT_BYTES: usize = Recording::MAX_BYTES + 1;
@@ -20,8 +21,8 @@ fn say<R: Eprint>(rt: &R, message: &str) {
 }
 
 // The report of a good file, block by block.
-fn write_blocks<R: Print>(rt: &R, table: &[u16], list: &mut [u16], out: &mut [u8]) -> io::Result<()>
-    requires { Writing table.now at_start list.old 0 out.old }
+fn write_blocks<R: Print>(rt: &R, table: &Table, list: &mut [u16], out: &mut [u8]) -> io::Result<()>
+    requires { Writing table.now.words.now at_start list.old 0 out.old }
 {
     let mut next = Some(Position::start());
     while let Some(position) = next {
@@ -33,8 +34,8 @@ fn write_blocks<R: Print>(rt: &R, table: &[u16], list: &mut [u16], out: &mut [u8
 }
 
 // The same with a new list.
-fn write_lines<R: Print>(rt: &R, table: &[u16], out: &mut [u8]) -> io::Result<()>
-    requires { Starting table.now at_start out.old }
+fn write_lines<R: Print>(rt: &R, table: &Table, out: &mut [u8]) -> io::Result<()>
+    requires { Starting table.now.words.now at_start out.old }
 {
     let mut list = [0u16; Recording::MAX_EVENTS];
     write_blocks(rt, table, &mut list, out)
@@ -49,7 +50,7 @@ fn write_report<R: Print>(rt: &R, file: &[u8]) -> io::Result<()> {
             let n = lines::refused(&mut out, 0, r);
             rt.write_all(&out[..n])
         }
-        Ok(n) => write_lines(rt, &rows[..n], &mut out),
+        Ok(n) => write_lines(rt, &Table { words: &rows[..n] }, &mut out),
     }
 }
 

@@ -2,7 +2,7 @@
 #![tactic(auto)]
 
 ghost use Rattle.std.specs.Prelude.{◌*◌, ◌≤◌, ◌≡◌, true};
-ghost use Rattle.table.specs.Table.{trace, Linked};
+ghost use Rattle.table.specs.Judged.{events};
 ghost use Rattle.appending.specs.Appended.{Appends};
 ghost use Rattle.lines.specs.Room.{Room};
 ghost use Rattle.report.specs.Report.{first_line};
@@ -12,6 +12,7 @@ ghost use Rattle.report.specs.Writing.{Starting, Writing, placed, Advances, Writ
 
 use limits::Recording;
 use lines::LINE_BYTES;
+use table::Table;
 
 // No recording has more races than this: pairs of events.
 const MAX_RACES: u32 = (Recording::MAX_EVENTS * Recording::MAX_EVENTS) as u32;
@@ -48,19 +49,19 @@ pub struct Progress {
 }
 
 // The first line of a good file's report.
-fn first_line(table: &[u16], out: &mut [u8], at: usize) -> usize
-    requires { Linked table.now × Room at out.old }
-    ensures { Appends (first_line (trace table.now)) at out.old out.new result }
+fn first_line(table: &Table, out: &mut [u8], at: usize) -> usize
+    requires { Room at out.old }
+    ensures { Appends (first_line (events table.now)) at out.old out.new result }
 {
-    let events = table::count(table);
-    let threads = table::threads(table);
+    let events = table.count();
+    let threads = table.threads();
     lines::events(out, at, events as u16, threads)
 }
 
 // The next race's line, or the last line. The race and its witness come from one asking.
-fn race_line(table: &[u16], p: Position, list: &mut [u16], out: &mut [u8], at: usize) -> Progress
-    requires { Writing table.now p list.old at out.old }
-    ensures { Advances (trace table.now) (races_from (trace table.now) p) list.old list.new at out.old out.new result }
+fn race_line(table: &Table, p: Position, list: &mut [u16], out: &mut [u8], at: usize) -> Progress
+    requires { Writing table.now.words.now p list.old at out.old }
+    ensures { Advances (events table.now) (races_from (events table.now) p) list.old list.new at out.old out.new result }
 {
     match races::next_race(table, p.lower, p.higher, list) {
         None => Progress {
@@ -84,9 +85,9 @@ fn race_line(table: &[u16], p: Position, list: &mut [u16], out: &mut [u8], at: u
 
 // The line that comes next at a position.
 #[tactic(auto, unfolding(crate::specs::Rest::lines_from))]
-fn line(table: &[u16], p: Position, list: &mut [u16], out: &mut [u8], at: usize) -> Progress
-    requires { Writing table.now p list.old at out.old }
-    ensures { Advances (trace table.now) (lines_from (trace table.now) p) list.old list.new at out.old out.new result }
+fn line(table: &Table, p: Position, list: &mut [u16], out: &mut [u8], at: usize) -> Progress
+    requires { Writing table.now.words.now p list.old at out.old }
+    ensures { Advances (events table.now) (lines_from (events table.now) p) list.old list.new at out.old out.new result }
 {
     if p.next != 0 {
         return race_line(table, p, list, out, at);
@@ -98,9 +99,9 @@ fn line(table: &[u16], p: Position, list: &mut [u16], out: &mut [u8], at: usize)
 }
 
 // The lines from a position on, as many as surely fit, in the front of a buffer.
-pub fn block(table: &[u16], p: Position, list: &mut [u16], out: &mut [u8]) -> Progress
-    requires { Writing table.now p list.old 0 out.old }
-    ensures { Fills (trace table.now) p list.old list.new out.old out.new result }
+pub fn block(table: &Table, p: Position, list: &mut [u16], out: &mut [u8]) -> Progress
+    requires { Writing table.now.words.now p list.old 0 out.old }
+    ensures { Fills (events table.now) p list.old list.new out.old out.new result }
 {
     let mut progress = line(table, p, list, out, 0);
     while let Some(next) = progress.next {
@@ -113,9 +114,9 @@ pub fn block(table: &[u16], p: Position, list: &mut [u16], out: &mut [u8]) -> Pr
 }
 
 // The same with a new list.
-fn new_block(table: &[u16], p: Position, out: &mut [u8]) -> Progress
-    requires { Starting table.now p out.old }
-    ensures { Writes (lines_from (trace table.now) p) out.old out.new result }
+fn new_block(table: &Table, p: Position, out: &mut [u8]) -> Progress
+    requires { Starting table.now.words.now p out.old }
+    ensures { Writes (lines_from (events table.now) p) out.old out.new result }
 {
     let mut list = [0u16; Recording::MAX_EVENTS];
     block(table, p, &mut list, out)
@@ -132,7 +133,7 @@ fn lines_at(file: &[u8], p: Position, out: &mut [u8]) -> Progress
             bytes: lines::refused(out, 0, r),
             next: None,
         },
-        Ok(n) => new_block(&rows[..n], p, out),
+        Ok(n) => new_block(&Table { words: &rows[..n] }, p, out),
     }
 }
 

@@ -6,7 +6,7 @@ use Rattle.nightly.proofs.NightlyLaws.{Between}
 use Rattle.nightly.proofs.write_blocks.Given as goal
 
 abbrev pub invariant-loop-next : goal.invariant-loop-next
-invariant-loop-next g l = Between l.table l.initial.list l.initial.out l.list l.out l.next
+invariant-loop-next g l = Between l.table.words.now l.initial.list l.initial.out l.list l.out l.next
 
 abbrev pub decreases-loop-next : goal.decreases-loop-next
-decreases-loop-next g l = length (after (lines_from (trace l.table)) (position_in l.next))
+decreases-loop-next g l = length (after (lines_from (trace l.table.words.now)) (position_in l.next))
