@@ -17,6 +17,7 @@ ghost use Rattle.opening.specs.Opening.{Opens};
 use limits::{Event, Refusal, Thread};
 
 // Word c of event k, where it is the event's own: its thread and its kind, a byte each, or its object.
+#[tactic(auto, using(crate::proofs::FillLaws::own_first, crate::proofs::FillLaws::own_second, crate::proofs::FillLaws::own_object))]
 fn own_word(ev: &[u8], k: usize, c: usize) -> u16
     requires { Good (trace_in ev.now) × (Valid (trace_in ev.now) k × (c < 2)) }
     ensures { result ≡ column c (trace_in ev.now) k }
@@ -27,7 +28,8 @@ fn own_word(ev: &[u8], k: usize, c: usize) -> u16
     format::object_at(ev, k) as u16
 }
 
-// Column c, where it is the events' own.
+// Column c, where it is the events' own. It reads the bytes and keeps no list, so it is no `Pass`.
+#[tactic(auto, using(crate::proofs::PassLaws::forward_start, crate::proofs::PassLaws::forward_more, crate::proofs::PassLaws::forward_end))]
 fn add_own(ev: &[u8], c: usize, table: &mut [u16])
     requires { Columns (trace_in ev.now) c table.old × (c < 2) }
     ensures { Columns (trace_in ev.now) (suc c) table.new }
@@ -174,6 +176,7 @@ impl Pass for Depth {
 }
 
 // Does event k begin a section: is it an outermost acquire?
+#[tactic(auto, using(crate::proofs::StepLaws::begins_not, crate::proofs::StepLaws::begins_test))]
 fn begins(table: &[u16], k: usize) -> bool
     requires { Columns (trace table.now) 5 table.now × Valid (trace table.now) k }
     ensures { result ≡ is_outermost (trace table.now) k }
@@ -185,6 +188,7 @@ fn begins(table: &[u16], k: usize) -> bool
 }
 
 // Does it end one: is it a last release?
+#[tactic(auto, using(crate::proofs::StepLaws::ends_not, crate::proofs::StepLaws::ends_test))]
 fn ends(table: &[u16], k: usize) -> bool
     requires { Columns (trace table.now) 5 table.now × Valid (trace table.now) k }
     ensures { result ≡ is_last (trace table.now) k }
@@ -214,6 +218,7 @@ fn put_released(table: &mut [u16], k: usize, next: &mut [u16; Event::OBJECTS])
 }
 
 // Where each section ends. The next last release of a lock is by the outermost acquire's thread: before it nobody else can take the lock or release it.
+// It goes backwards, so it is no `Pass`.
 fn add_released(table: &mut [u16])
     requires { Columns (trace table.old) 5 table.old }
     ensures { Columns (trace table.old) 6 table.new }
@@ -339,6 +344,7 @@ fn fill(ev: &[u8], table: &mut [u16])
 }
 
 // The table of a good trace, in the front of the lent area. Gives its length.
+#[tactic(auto, using(crate::proofs::FillLaws::build_long, crate::proofs::FillLaws::build_start, crate::proofs::FillLaws::build_end))]
 fn build(ev: &[u8], area: &mut [u16]) -> usize
     requires { Good (trace_in ev.now) × (room ≤ length area.old) }
     ensures { Built (trace_in ev.now) result area.new }
