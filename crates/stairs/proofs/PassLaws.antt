@@ -10,7 +10,8 @@ use Rattle.std.specs.Prelude.{Some, None}
 use Rattle.model.specs.Trace.{Trace, Valid}
 use Rattle.model.specs.Lists.{◌∈◌}
 use Rattle.model.proofs.Lists.{get_d_mem, mem_place}
-use Rattle.table.specs.Table.{trace}
+use Rattle.table.specs.declared.judged.Table.{Table}
+use Rattle.table.specs.Judged.{events}
 use Rattle.table.specs.Links.{began}
 use Rattle.stairs.specs.Stairs.{at, slot_of, slots, Rule, Solution, Ready}
 use Rattle.stairs.specs.Passes.{Moved, Upto, Reached, Met, Begun, nowhere, outside, asked, Pulled, stands, lifts, total, Below, Passed}
@@ -51,20 +52,20 @@ passing_start t m P Q ends need c e =
       rest = λ q. record { under = λ x h. absurd (omega arith); climbs = λ x y a h. absurd (omega arith); apart = λ x h. absurd (omega arith) };
     }
 
-pub ready_moved : {s : List ℕ} {m : ℕ} {P Q ends need : List ℕ} → Ready s m P Q ends need → Moved s P ends
-ready_moved w = record { good = w.links.good; valid = w.lists.moved; up = w.lists.moved_up; room = w.ends_room }
+pub ready_moved : {s : Table} {m : ℕ} {P Q ends need : List ℕ} → Ready s m P Q ends need → Moved s P ends
+ready_moved w = record { valid = w.lists.moved; up = w.lists.moved_up; room = w.ends_room }
 
 climbs_to : {t : Trace} {m : ℕ} {P Q ends low : List ℕ} {g : ℕ → ℕ} → Solution t m P Q ends low g → (j k : ℕ) → j ∈ Q → k ∈ Q → j ≤ k → g j ≤ g k
 climbs_to s j k j-in k-in h = equal_or_not j k (λ e. rw e (omega arith)) (λ n. s.climbs j k j-in k-in (omega arith))
 
 -- ---- event k, at place j, is met
 
-module _ {s : List ℕ} {m : ℕ} {P Q ends need₀ : List ℕ} (w : Ready s m P Q ends need₀) {i n j : ℕ} {raised : Bool} {need reach : List ℕ}
-    (p : Passing (trace s) m P Q ends need₀ i n j raised need reach) (h : j < length Q) (k : ℕ) (e : k ≡ at Q j) where
+module _ {s : Table} {m : ℕ} {P Q ends need₀ : List ℕ} (w : Ready s m P Q ends need₀) {i n j : ℕ} {raised : Bool} {need reach : List ℕ}
+    (p : Passing (events s) m P Q ends need₀ i n j raised need reach) (h : j < length Q) (k : ℕ) (e : k ≡ at Q j) where
   turn_in : k ∈ Q
   turn_in = rw e (get_d_mem Q j h)
 
-  pub turn_valid : Valid (trace s) k
+  pub turn_valid : Valid (events s) k
   turn_valid = w.lists.others k turn_in
 
   pub turn_place : k < length need
@@ -87,13 +88,13 @@ module _ {s : List ℕ} {m : ℕ} {P Q ends need₀ : List ℕ} (w : Ready s m P
         let u = turn_before x b in
         rw q.put (at_set (λ y. y ≡ at need (at Q x)) need k r (at Q x) turn_place (λ f. absurd (omega arith)) (λ f. refl))
 
-    met_behind : (g : ℕ → ℕ) → Solution (trace s) m P Q ends need₀ g → (x : ℕ) → j ≤ x → x < length Q → r ≤ g (at Q x)
+    met_behind : (g : ℕ → ℕ) → Solution (events s) m P Q ends need₀ g → (x : ℕ) → j ≤ x → x < length Q → r ≤ g (at Q x)
     met_behind g z x a b =
         let c = p.behind g z j (omega arith) h in
         let here = q.larger.least (g k) (rw e c) (p.below g z k turn_in) in
         let up = climbs_to z k (at Q x) turn_in (get_d_mem Q x b) (turn_behind x a b) in omega arith
 
-    met_rest : Rested (trace s) m P Q ends n j need → Rested (trace s) m P Q ends r j need'
+    met_rest : Rested (events s) m P Q ends n j need → Rested (events s) m P Q ends r j need'
     met_rest z =
         let a = q.larger.first in
         record {
@@ -102,14 +103,14 @@ module _ {s : List ℕ} {m : ℕ} {P Q ends need₀ : List ℕ} (w : Ready s m P
           apart = λ x b o v v-in c f d.
               let y = met_other x b in
               let u = z.apart x b o v v-in c f (omega arith) in
-              let l = met_grows (began (trace s) (at Q x)) in omega arith;
+              let l = met_grows (began (events s) (at Q x)) in omega arith;
         }
 
     met_here : at need' k ≡ r
     met_here = rw q.put (get_or-set_same need k r 0 turn_place)
 
     -- and P passes as far
-    passing_met : r < 65536 → {i' : ℕ} {reach' : List ℕ} → Reached (trace s) P ends i' r reach' → Passing (trace s) m P Q ends need₀ i' r j raised need' reach'
+    passing_met : r < 65536 → {i' : ℕ} {reach' : List ℕ} → Reached (events s) P ends i' r reach' → Passing (events s) m P Q ends need₀ i' r j raised need' reach'
     passing_met d c =
         let l : length need' ≡ length need = ap length q.put ∙ length-set need k r in
         let t = total-set need k r turn_place in
@@ -132,37 +133,37 @@ module _ {s : List ℕ} {m : ℕ} {P Q ends need₀ : List ℕ} (w : Ready s m P
 
   -- ---- it pulls
 
-  begun_place : {o : ℕ} → Begun (trace s) m k (Some o) → o < length need
+  begun_place : {o : ℕ} → Begun (events s) m k (Some o) → o < length need
   begun_place (outside o) =
       let b = w.lists.begun k (turn_in) o in let a = turn_place in omega arith
 
-  asked_below : {o : ℕ} → Begun (trace s) m k (Some o) → (g : ℕ → ℕ) → Solution (trace s) m P Q ends need₀ g → asked (trace s) reach o ≤ g o
+  asked_below : {o : ℕ} → Begun (events s) m k (Some o) → (g : ℕ → ℕ) → Solution (events s) m P Q ends need₀ g → asked (events s) reach o ≤ g o
   asked_below (outside o) g z =
-      let a = asked-some (trace s) reach (began (trace s) k) (slot_of (trace s) (began (trace s) k)) o.begins refl in
+      let a = asked-some (events s) reach (began (events s) k) (slot_of (events s) (began (events s) k)) o.begins refl in
       let c = p.behind g z j (omega arith) h in
       let b = raise_below m k g p.upto o (z.apart k (turn_in)) (rw e c) in omega arith
 
   -- P has passed as far before every later event too
-  asked_behind : {o : ℕ} → Begun (trace s) m k (Some o) → (g : ℕ → ℕ) → Solution (trace s) m P Q ends need₀ g → (x : ℕ) → j ≤ x → x < length Q → asked (trace s) reach o ≤ g (at Q x)
+  asked_behind : {o : ℕ} → Begun (events s) m k (Some o) → (g : ℕ → ℕ) → Solution (events s) m P Q ends need₀ g → (x : ℕ) → j ≤ x → x < length Q → asked (events s) reach o ≤ g (at Q x)
   asked_behind (outside o) g z x a b =
       let c = w.lists.begun k (turn_in) o in
       let d = asked_below (outside o) g z in
       let f = turn_behind x a b in
-      let u = climbs_to z (began (trace s) k) (at Q x) c.0 (get_d_mem Q x b) (omega arith) in omega arith
+      let u = climbs_to z (began (events s) k) (at Q x) c.0 (get_d_mem Q x b) (omega arith) in omega arith
 
-  asked_rule : {o : ℕ} → Begun (trace s) m k (Some o) → Reached (trace s) P ends i n reach → at need k ≤ n → asked (trace s) reach o ≤ at need o → Rule (trace s) m P ends (at need) k
+  asked_rule : {o : ℕ} → Begun (events s) m k (Some o) → Reached (events s) P ends i n reach → at need k ≤ n → asked (events s) reach o ≤ at need o → Rule (events s) m P ends (at need) k
   asked_rule (outside o) r b low =
-      let a = asked-some (trace s) reach (began (trace s) k) (slot_of (trace s) (began (trace s) k)) o.begins refl in
+      let a = asked-some (events s) reach (began (events s) k) (slot_of (events s) (began (events s) k)) o.begins refl in
       rest_rule m k (at need) r b (omega arith)
 
-  begun_asked : {o : ℕ} → Begun (trace s) m k (Some o) → Valid (trace s) o
-  begun_asked (outside o) = began_valid (trace s) k (turn_valid) o.begins
+  begun_asked : {o : ℕ} → Begun (events s) m k (Some o) → Valid (events s) o
+  begun_asked (outside o) = began_valid (events s) k (turn_valid) o.begins
 
   -- with no such interval there is no rule to keep
-  no_rule : (g : ℕ → ℕ) → Begun (trace s) m k None → Rule (trace s) m P ends g k
+  no_rule : (g : ℕ → ℕ) → Begun (events s) m k None → Rule (events s) m P ends g k
   no_rule g (nowhere none) = λ o. absurd (none o)
 
-  stood : at need k ≡ n → Rule (trace s) m P ends (at need) k → Rested (trace s) m P Q ends n j need → Rested (trace s) m P Q ends n (j + 1) need
+  stood : at need k ≡ n → Rule (events s) m P ends (at need) k → Rested (events s) m P Q ends n j need → Rested (events s) m P Q ends n (j + 1) need
   stood here r z =
       record {
         under = λ x c. equal_or_not x j (λ q. rw (q, ← e) (omega arith)) (λ q. z.under x (omega arith));
@@ -172,7 +173,7 @@ module _ {s : List ℕ} {m : ℕ} {P Q ends need₀ : List ℕ} (w : Ready s m P
       }
 
   -- it is at rest
-  passing_stood : at need k ≡ n → (raised ≡ false → Rule (trace s) m P ends (at need) k) → Passing (trace s) m P Q ends need₀ i n (j + 1) raised need reach
+  passing_stood : at need k ≡ n → (raised ≡ false → Rule (events s) m P ends (at need) k) → Passing (events s) m P Q ends need₀ i n (j + 1) raised need reach
   passing_stood here r =
       record {
         upto = p.upto;
@@ -186,9 +187,9 @@ module _ {s : List ℕ} {m : ℕ} {P Q ends need₀ : List ℕ} (w : Ready s m P
         rest = λ f. stood here (r f) (p.rest f);
       }
 
-  module _ {o : ℕ} (b : Begun (trace s) m k (Some o)) (most : ℕ) (ea : most ≡ asked (trace s) reach o) where
+  module _ {o : ℕ} (b : Begun (events s) m k (Some o)) (most : ℕ) (ea : most ≡ asked (events s) reach o) where
     -- P passes further, and it is met again
-    passing_further : n < most → most < 65536 → Passing (trace s) m P Q ends need₀ i most j raised need reach
+    passing_further : n < most → most < 65536 → Passing (events s) m P Q ends need₀ i most j raised need reach
     passing_further d f =
         record {
           upto = upto_further p.upto most (omega arith);
@@ -202,8 +203,8 @@ module _ {s : List ℕ} {m : ℕ} {P Q ends need₀ : List ℕ} (w : Ready s m P
           rest = λ q. let z = p.rest q in record { under = λ x a. let u = z.under x a in omega arith; climbs = z.climbs; apart = z.apart };
         }
 
-    passing_pulled : Reached (trace s) P ends i n reach → at need k ≡ n → {raised' : Bool} {need' : List ℕ} → Pulled o most raised need raised' need'
-        → Passing (trace s) m P Q ends need₀ i n (j + 1) raised' need' reach
+    passing_pulled : Reached (events s) P ends i n reach → at need k ≡ n → {raised' : Bool} {need' : List ℕ} → Pulled o most raised need raised' need'
+        → Passing (events s) m P Q ends need₀ i n (j + 1) raised' need' reach
     passing_pulled c here (stands low) = passing_stood here (λ f. asked_rule b c (omega arith) (omega arith))
     passing_pulled c here (lifts high) =
         let d = begun_place b in
@@ -224,34 +225,34 @@ module _ {s : List ℕ} {m : ℕ} {P Q ends need₀ : List ℕ} (w : Ready s m P
 
 -- ---- the turn of event k
 
-module _ {s : List ℕ} {m : ℕ} {P Q ends need₀ : List ℕ} (w : Ready s m P Q ends need₀) {i n j : ℕ} {raised : Bool} {need reach : List ℕ}
-    (p : Passing (trace s) m P Q ends need₀ i n j raised need reach) (h : j < length Q) (k : ℕ) (e : k ≡ at Q j) {r : ℕ} {need' : List ℕ} (q : Met k n need r need') where
-  pub turn_upto : Upto (trace s) P ends i r reach
+module _ {s : Table} {m : ℕ} {P Q ends need₀ : List ℕ} (w : Ready s m P Q ends need₀) {i n j : ℕ} {raised : Bool} {need reach : List ℕ}
+    (p : Passing (events s) m P Q ends need₀ i n j raised need reach) (h : j < length Q) (k : ℕ) (e : k ≡ at Q j) {r : ℕ} {need' : List ℕ} (q : Met k n need r need') where
+  pub turn_upto : Upto (events s) P ends i r reach
   turn_upto = upto_further p.upto r q.larger.first
 
   -- with no interval to pull at
-  pub passing_none : Begun (trace s) m k None → r < 65536 → {i' : ℕ} {reach' : List ℕ} → Reached (trace s) P ends i' r reach' → Passing (trace s) m P Q ends need₀ i' r (j + 1) raised need' reach'
+  pub passing_none : Begun (events s) m k None → r < 65536 → {i' : ℕ} {reach' : List ℕ} → Reached (events s) P ends i' r reach' → Passing (events s) m P Q ends need₀ i' r (j + 1) raised need' reach'
   passing_none b d c = let z = passing_met w p h k e q d c in passing_stood w z h k e (met_here w p h k e q) (λ f. no_rule w z h k e (at need') b)
 
-  module _ {o : ℕ} (b : Begun (trace s) m k (Some o)) where
-    pub turn_begun : Valid (trace s) o
+  module _ {o : ℕ} (b : Begun (events s) m k (Some o)) where
+    pub turn_begun : Valid (events s) o
     turn_begun = begun_asked w p h k e b
 
     pub turn_pull : o < length need'
     turn_pull = let l = ap length q.put ∙ length-set need k r in let a = begun_place w p h k e b in omega arith
 
-    module _ (d : r < 65536) {i' : ℕ} {reach' : List ℕ} (c : Reached (trace s) P ends i' r reach') {most : ℕ} (ea : most ≡ asked (trace s) reach' o) where
-      pub passing_again : r < most → most < 65536 → Passing (trace s) m P Q ends need₀ i' most j raised need' reach'
+    module _ (d : r < 65536) {i' : ℕ} {reach' : List ℕ} (c : Reached (events s) P ends i' r reach') {most : ℕ} (ea : most ≡ asked (events s) reach' o) where
+      pub passing_again : r < most → most < 65536 → Passing (events s) m P Q ends need₀ i' most j raised need' reach'
       passing_again = passing_further w (passing_met w p h k e q d c) h k e b most ea
 
-      pub passing_turn : {raised' : Bool} {need'' : List ℕ} → Pulled o most raised need' raised' need'' → Passing (trace s) m P Q ends need₀ i' r (j + 1) raised' need'' reach'
+      pub passing_turn : {raised' : Bool} {need'' : List ℕ} → Pulled o most raised need' raised' need'' → Passing (events s) m P Q ends need₀ i' r (j + 1) raised' need'' reach'
       passing_turn = passing_pulled w (passing_met w p h k e q d c) h k e b most ea c (met_here w p h k e q)
 
 -- ---- the end of a pass
 
-module _ {s : List ℕ} {m : ℕ} {P Q ends need₀ : List ℕ} (w : Ready s m P Q ends need₀) {i n j : ℕ} {raised : Bool} {need reach : List ℕ}
-    (p : Passing (trace s) m P Q ends need₀ i n j raised need reach) (end : length Q ≤ j) where
-  rest_solution : Rested (trace s) m P Q ends n j need → Solution (trace s) m P Q ends need₀ (at need)
+module _ {s : Table} {m : ℕ} {P Q ends need₀ : List ℕ} (w : Ready s m P Q ends need₀) {i n j : ℕ} {raised : Bool} {need reach : List ℕ}
+    (p : Passing (events s) m P Q ends need₀ i n j raised need reach) (end : length Q ≤ j) where
+  rest_solution : Rested (events s) m P Q ends n j need → Solution (events s) m P Q ends need₀ (at need)
   rest_solution z =
       record {
         climbs = λ x y x-in y-in b.
@@ -265,5 +266,5 @@ module _ {s : List ℕ} {m : ℕ} {P Q ends need₀ : List ℕ} (w : Ready s m P
         apart = λ k k-in. let a = mem_place k-in in let d = a.1 in rw a.2 at (z.apart a.0 (omega arith));
       }
 
-  pub passed : Passed (trace s) m P Q ends need₀ raised need
+  pub passed : Passed (events s) m P Q ends need₀ raised need
   passed = record { same = p.same; grows = p.grows; below = p.below; more = p.lifted; rest = λ f. rest_solution (p.rest f) }

@@ -6,7 +6,8 @@ use mathlib.Core.List.{List}
 use lib.ListN.{length, set, replicate, length-set, length-replicate}
 use Rattle.model.specs.Trace.{Trace, Valid}
 use Rattle.model.proofs.Lists.{get_d_mem}
-use Rattle.table.specs.Table.{trace}
+use Rattle.table.specs.declared.judged.Table.{Table}
+use Rattle.table.specs.Judged.{events}
 use Rattle.stairs.specs.Stairs.{at, slot_of, slots}
 use Rattle.stairs.specs.Passes.{Moved, Noted, Upto, Reached}
 use Rattle.stairs.proofs.PlaceLaws.{equal_or_not, at_set, set_grows, place_up}
@@ -49,14 +50,14 @@ pub upto_further : {t : Trace} {P ends : List ℕ} {i n : ℕ} {reach : List ℕ
 upto_further u r h =
     record { long = u.long; few = u.few; under = λ k b. let a = u.under k b in omega arith; above = u.above; least = u.least }
 
-module _ {s P ends : List ℕ} {i n : ℕ} {reach : List ℕ} (m : Moved s P ends) (u : Upto (trace s) P ends i n reach) where
-  pub advance_end : length P ≤ i → Reached (trace s) P ends (length P) n reach
+module _ {s : Table} {P ends : List ℕ} {i n : ℕ} {reach : List ℕ} (m : Moved s P ends) (u : Upto (events s) P ends i n reach) where
+  pub advance_end : length P ≤ i → Reached (events s) P ends (length P) n reach
   advance_end h =
       let f = u.few in
       let e : i ≡ length P = omega arith in
       rw (← e) (record { upto = u; over = λ k a b. absurd (omega arith) })
 
-  pub advance_stop : n < at P i → Reached (trace s) P ends i n reach
+  pub advance_stop : n < at P i → Reached (events s) P ends i n reach
   advance_stop b =
       record {
         upto = u;
@@ -64,13 +65,13 @@ module _ {s P ends : List ℕ} {i n : ℕ} {reach : List ℕ} (m : Moved s P end
       }
 
   module _ (h : i < length P) (v : ℕ) (e : v ≡ at P i) where
-    pub advance_valid : Valid (trace s) v
+    pub advance_valid : Valid (events s) v
     advance_valid = rw e (m.valid (at P i) (get_d_mem P i h))
 
     pub advance_room : v < length ends
     advance_room = let a = advance_valid in let b = m.room in omega arith
 
-    pub advance_more : at P i ≤ n → {reach' : List ℕ} → Noted (trace s) ends v reach reach' → Upto (trace s) P ends (i + 1) n reach'
+    pub advance_more : at P i ≤ n → {reach' : List ℕ} → Noted (events s) ends v reach reach' → Upto (events s) P ends (i + 1) n reach'
     advance_more b q =
         let z = rw e at q in
         record {
@@ -79,6 +80,6 @@ module _ {s P ends : List ℕ} {i n : ℕ} {reach : List ℕ} (m : Moved s P end
           under = λ k c. equal_or_not k i (λ y. rw y (omega arith)) (λ y. u.under k (omega arith));
           above = λ k c.
               equal_or_not k i (λ y. rw y z.above)
-              (λ y. let a = u.above k (omega arith) in let d = z.grows (slot_of (trace s) (at P k)) in omega arith);
+              (λ y. let a = u.above k (omega arith) in let d = z.grows (slot_of (events s) (at P k)) in omega arith);
           least = λ y c g. z.least y c (u.least y c (λ k d. g k (omega arith))) (g i (omega arith));
         }

@@ -2,9 +2,9 @@
 use Rattle.std.specs.Prelude.{ℕ, ◌+◌, ◌≤◌, ◌<◌, ◌≡◌, Bool, true, false, cond, ◌&&◌, ◌||◌, List, [], ◌∷◌, length, set, eqb, leb, ltb, Option, Some, None}
 use Rattle.model.specs.Trace.{Trace, Valid}
 use Rattle.model.specs.Lists.{◌∈◌}
-use Rattle.model.specs.Good.{Good}
 use Rattle.model.specs.Race.{Increasing}
-use Rattle.table.specs.Table.{trace}
+use Rattle.table.specs.declared.judged.Table.{Table}
+use Rattle.table.specs.Judged.{events}
 use Rattle.table.specs.Links.{began}
 use Rattle.stairs.specs.Stairs.{at, slot_of, slots, InOthers, Solution}
 
@@ -16,12 +16,11 @@ pub record Larger (a b r : ℕ) : Type 0 where
 
 -- ---- the events of P pass
 
--- a good table, events P of it in its order, and a table by event
-pub record Moved (s P ends : List ℕ) : Type 0 where
-  pub good : Good (trace s)
-  pub valid : (k : ℕ) → k ∈ P → Valid (trace s) k
+-- events P of a judged recording's table, in its order, and a table by event
+pub record Moved (s : Table) (P ends : List ℕ) : Type 0 where
+  pub valid : (k : ℕ) → k ∈ P → Valid (events s) k
   pub up : Increasing P
-  pub room : length (trace s) < length ends
+  pub room : length (events s) < length ends
 
 -- event v passed: its slot is reached up to the end of its interval
 pub record Noted (t : Trace) (ends : List ℕ) (v : ℕ) (reach reach' : List ℕ) : Type 0 where

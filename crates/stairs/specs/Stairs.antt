@@ -5,7 +5,8 @@ use Rattle.model.specs.Trace.{Trace, Valid, acquire, thread_of, kind_of, object_
 use Rattle.model.specs.Lists.{◌∈◌}
 use Rattle.model.specs.Good.{max_object}
 use Rattle.model.specs.Race.{Increasing}
-use Rattle.table.specs.Table.{trace, Linked}
+use Rattle.table.specs.declared.judged.Table.{Table}
+use Rattle.table.specs.Judged.{events}
 use Rattle.table.specs.Links.{began}
 
 abbrev pub at : List ℕ → ℕ → ℕ
@@ -48,12 +49,11 @@ pub record Lists (t : Trace) (m : ℕ) (P Q : List ℕ) : Type 0 where
   pub others_up : Increasing Q
   pub begun : (k : ℕ) → k ∈ Q → InOthers t m k → (began t k ∈ Q) × (began t k ≤ k)
 
--- a table with its links, two lists of its events, and tables by event
-pub record Ready (s : List ℕ) (m : ℕ) (P Q ends need : List ℕ) : Type 0 where
-  pub links : Linked s
-  pub lists : Lists (trace s) m P Q
-  pub ends_room : length (trace s) < length ends
-  pub need_room : length (trace s) < length need
+-- two lists of a judged recording's events, and tables by event
+pub record Ready (s : Table) (m : ℕ) (P Q ends need : List ℕ) : Type 0 where
+  pub lists : Lists (events s) m P Q
+  pub ends_room : length (events s) < length ends
+  pub need_room : length (events s) < length need
 
 -- what is needed at least has become the least staircase
 pub record Solved (t : Trace) (m : ℕ) (P Q ends need need' : List ℕ) : Type 0 where

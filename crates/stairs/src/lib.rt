@@ -55,7 +55,7 @@ fn advance(
     from: usize,
     to: u16,
 ) -> usize
-    requires { Moved table.now.words.now p.now ends.now × Upto (events table.now) p.now ends.now from to reach.old }
+    requires { Moved table.now p.now ends.now × Upto (events table.now) p.now ends.now from to reach.old }
     ensures { Reached (events table.now) p.now ends.now result to reach.new }
 {
     for i in from..p.len() {
@@ -114,7 +114,7 @@ fn pull(need: &mut [u16], o: usize, most: u16, raised: bool) -> bool
 
 // Once along q. An event before which p has to pass further is met again. Was anything raised that has to be walked again?
 fn pass(table: &Table, m: u8, p: &[u16], q: &[u16], ends: &[u16], need: &mut [u16]) -> bool
-    requires { Ready table.now.words.now m p.now q.now ends.now need.old }
+    requires { Ready table.now m p.now q.now ends.now need.old }
     ensures { Passed (events table.now) m p.now q.now ends.now need.old result need.new }
 {
     let mut reach = [0u16; SLOTS];
@@ -142,7 +142,7 @@ fn pass(table: &Table, m: u8, p: &[u16], q: &[u16], ends: &[u16], need: &mut [u1
 
 // What is needed at least becomes the least staircase: passes, until one raises nothing.
 pub fn solve(table: &Table, m: u8, p: &[u16], q: &[u16], ends: &[u16], need: &mut [u16])
-    requires { Ready table.now.words.now m p.now q.now ends.now need.old }
+    requires { Ready table.now m p.now q.now ends.now need.old }
     ensures { Solved (events table.now) m p.now q.now ends.now need.old need.new }
 {
     while pass(table, m, p, q, ends, need) {}
