@@ -15,11 +15,12 @@ use Rattle.model.specs.Good.{max_thread}
 use Rattle.model.proofs.Tests.{by_cases}
 use Rattle.model.proofs.Lists.{get_d_mem, mem_place}
 use Rattle.model.proofs.Threads.{apart_same}
-use Rattle.table.specs.Table.{trace}
+use Rattle.table.specs.declared.judged.Table.{Table}
+use Rattle.table.specs.Judged.{events}
 use Rattle.cone.specs.Tops.{Rooted}
 use Rattle.cone.specs.Following.{no_root, has_root, Bars}
 
-pub root_valid : {s R : List ℕ} → Rooted s R → (i : ℕ) → i < length R → (r : ℕ) → r ≡ get_or R i 0 → Valid (trace s) r
+pub root_valid : {s : Table} {R : List ℕ} → Rooted s R → (i : ℕ) → i < length R → (r : ℕ) → r ≡ get_or R i 0 → Valid (events s) r
 root_valid {s} {R} g i h r e = rw e (g.apart.valid (get_or R i 0) (get_d_mem R i h))
 
 -- ---- `set_bars`
@@ -37,11 +38,11 @@ bars_start t R bars e = record {
   bar = λ n l. absurd (omega arith);
 }
 
-pub bars_more : {s R : List ℕ} → Rooted s R → {i : ℕ} {bars : List ℕ} → Barring (trace s) R i bars → i < length R
-    → (r : ℕ) → r ≡ get_or R i 0 → (c : ℕ) → c ≡ thread_of (trace s) r → c ≤ max_thread → Barring (trace s) R (i + 1) (set bars c (get_or R i 0))
+pub bars_more : {s : Table} {R : List ℕ} → Rooted s R → {i : ℕ} {bars : List ℕ} → Barring (events s) R i bars → i < length R
+    → (r : ℕ) → r ≡ get_or R i 0 → (c : ℕ) → c ≡ thread_of (events s) r → c ≤ max_thread → Barring (events s) R (i + 1) (set bars c (get_or R i 0))
 bars_more {s} {R} g {i} {bars} b h r er c ec lc =
     let size = b.long in
-    let t = trace s in
+    let t = events s in
     let e : c ≡ thread_of t (get_or R i 0) = ec ∙ ap (thread_of t) er in
     let m : get_or R i 0 ∈ R = get_d_mem R i h in
     let set_here : get_or (set bars c (get_or R i 0)) c 0 ≡ get_or R i 0 = get_or-set_same bars c (get_or R i 0) 0 (omega arith) in
@@ -63,7 +64,7 @@ bars_more {s} {R} g {i} {bars} b h r er c ec lc =
           get_or-set_other bars c (thread_of t (get_or R n 0)) (get_or R i 0) 0 ne ∙ b.bar n (omega arith));
     }
 
-pub bars_end : {s R : List ℕ} → Rooted s R → {i : ℕ} {bars : List ℕ} → Barring (trace s) R i bars → length R ≤ i → Bars (trace s) R bars
+pub bars_end : {s : Table} {R : List ℕ} → Rooted s R → {i : ℕ} {bars : List ℕ} → Barring (events s) R i bars → length R ≤ i → Bars (events s) R bars
 bars_end {s} {R} g b h = record {
   barred = record { valid = λ c l ne. g.apart.valid _ (b.root c l ne).0; thread = λ c l ne. (b.root c l ne).1 };
   valid = g.apart.valid;

@@ -14,7 +14,8 @@ use Rattle.model.specs.Trace.{Trace, Valid, thread_of}
 use Rattle.model.specs.Good.{max_thread}
 use Rattle.model.proofs.Tests.{by_cases}
 use Rattle.table.specs.Links.{previous, fork_of}
-use Rattle.table.specs.Table.{trace}
+use Rattle.table.specs.declared.judged.Table.{Table}
+use Rattle.table.specs.Judged.{events}
 use Rattle.table.proofs.LinkFacts.{previous_less, previous_earlier, previous_last, fork-same}
 use Rattle.cone.specs.declared.RootInside.{RootInside}
 use Rattle.cone.specs.Following.{has_root, Within, Coming, Raising, Answer, going, Raised, BringsIn, Follows, Going, Caught}
@@ -29,39 +30,39 @@ pub record Back (t : Trace) (bars : List ℕ) (n k : ℕ) (tops tops' : List ℕ
   pub coming : Coming t bars k
   pub thread : k ≢ 0 → thread_of t k ≡ thread_of t n
 
-module _ {s bars tops : List ℕ} (g : Raising s bars tops) where
+module _ {s : Table} {bars tops : List ℕ} (g : Raising s bars tops) where
   abbrev t : Trace
-  t = trace s
+  t = events s
 
-  pub follow_start : {n : ℕ} → Within (trace s) bars n → Back (trace s) bars n n tops tops
+  pub follow_start : {n : ℕ} → Within (events s) bars n → Back (events s) bars n n tops tops
   follow_start w = record {
     follows = record { sound = g.sound; grown = grown_none tops; followed = λ j v e l h. absurd (omega arith) };
     coming = record { within = λ ne. w };
     thread = λ ne. refl;
   }
 
-  module _ {n k : ℕ} {tops' : List ℕ} (b : Back (trace s) bars n k tops tops') where
+  module _ {n k : ℕ} {tops' : List ℕ} (b : Back (events s) bars n k tops tops') where
     pub follow_raising : Raising s bars tops'
-    follow_raising = record { links = g.links; barred = g.barred; sound = b.follows.sound }
+    follow_raising = record { barred = g.barred; sound = b.follows.sound }
 
-    pub follow_end : (m : ℕ) → k ≤ m → Answer (trace s) bars (Follows (trace s) bars n m tops tops') (Ok tt)
+    pub follow_end : (m : ℕ) → k ≤ m → Answer (events s) bars (Follows (events s) bars n m tops tops') (Ok tt)
     follow_end m h = going (record { sound = b.follows.sound; grown = b.follows.grown; followed = λ j v e l u. b.follows.followed j v e (omega arith) u })
 
     module _ (m : ℕ) (h : m < k) where
-      pub follow_within : Within (trace s) bars k
+      pub follow_within : Within (events s) bars k
       follow_within = b.coming.within (omega arith)
 
-      pub follow_exempt : (x : Bool) → x ≡ has_root bars (thread_of (trace s) n) → x ≡ has_root bars (thread_of (trace s) k)
+      pub follow_exempt : (x : Bool) → x ≡ has_root bars (thread_of (events s) n) → x ≡ has_root bars (thread_of (events s) k)
       follow_exempt x e = e ∙ ap (has_root bars) (sym (b.thread (omega arith)))
 
-      pub follow_valid : Valid (trace s) k
+      pub follow_valid : Valid (events s) k
       follow_valid = follow_within.valid
 
-      module _ {p : ℕ} (e : p ≡ previous (trace s) k) where
+      module _ {p : ℕ} (e : p ≡ previous (events s) k) where
         pub follow_less : p < k
         follow_less = let z = previous_less t k (omega arith) in omega arith
 
-        pub follow_more : {tops'' : List ℕ} → Answer (trace s) bars (BringsIn (trace s) bars k tops' tops'') (Ok tt) → Back (trace s) bars n p tops tops''
+        pub follow_more : {tops'' : List ℕ} → Answer (events s) bars (BringsIn (events s) bars k tops' tops'') (Ok tt) → Back (events s) bars n p tops tops''
         follow_more a =
             let f = goes a in
             record {
@@ -85,27 +86,27 @@ module _ {s bars tops : List ℕ} (g : Raising s bars tops) where
 
 -- ---- `catch_up`
 
-module _ {s bars done tops : List ℕ} (g : Going s bars done tops) (c : ℕ) where
-  pub caught_not : (n m : ℕ) → n ≡ get_or tops c 0 → m ≡ get_or done c 0 → n ≤ m → Answer (trace s) bars (Caught (trace s) bars c done done tops tops) (Ok tt)
+module _ {s : Table} {bars done tops : List ℕ} (g : Going s bars done tops) (c : ℕ) where
+  pub caught_not : (n m : ℕ) → n ≡ get_or tops c 0 → m ≡ get_or done c 0 → n ≤ m → Answer (events s) bars (Caught (events s) bars c done done tops tops) (Ok tt)
   caught_not n m en em h = going (record { still = g.following; grown = grown_none tops; further = grown_none done; reaches = omega arith })
 
   pub caught_raising : Raising s bars tops
-  caught_raising = record { links = g.links; barred = g.barred; sound = g.following.sound }
+  caught_raising = record { barred = g.barred; sound = g.following.sound }
 
-  pub caught_within : (n m : ℕ) → n ≡ get_or tops c 0 → m < n → Within (trace s) bars n
+  pub caught_within : (n m : ℕ) → n ≡ get_or tops c 0 → m < n → Within (events s) bars n
   caught_within n m e h = rw e (g.following.sound.within c (omega arith))
 
-  pub caught_valid : (n m : ℕ) → n ≡ get_or tops c 0 → m < n → Valid (trace s) n
+  pub caught_valid : (n m : ℕ) → n ≡ get_or tops c 0 → m < n → Valid (events s) n
   caught_valid n m e h = (caught_within n m e h).valid
 
-  pub caught_forked : (n m : ℕ) → n ≡ get_or tops c 0 → m < n → (o : ℕ) → o ≡ fork_of (trace s) n → Coming (trace s) bars o
-  caught_forked n m e h o eo = bring_forked g.links (caught_within n m e h) o eo
+  pub caught_forked : (n m : ℕ) → n ≡ get_or tops c 0 → m < n → (o : ℕ) → o ≡ fork_of (events s) n → Coming (events s) bars o
+  caught_forked n m e h o eo = bring_forked s (caught_within n m e h) o eo
 
-  pub caught : (n m : ℕ) → n ≡ get_or tops c 0 → m ≡ get_or done c 0 → m < n → c ≤ max_thread → {o : ℕ} → o ≡ fork_of (trace s) n → {tops₁ : List ℕ}
-      → Answer (trace s) bars (Raised (trace s) bars o tops tops₁) (Ok tt) → {tops' : List ℕ} {x : Result (Unit {0}) RootInside}
-      → Answer (trace s) bars (Follows (trace s) bars n m tops₁ tops') x → Answer (trace s) bars (Caught (trace s) bars c done (set done c (get_or tops c 0)) tops tops') x
+  pub caught : (n m : ℕ) → n ≡ get_or tops c 0 → m ≡ get_or done c 0 → m < n → c ≤ max_thread → {o : ℕ} → o ≡ fork_of (events s) n → {tops₁ : List ℕ}
+      → Answer (events s) bars (Raised (events s) bars o tops tops₁) (Ok tt) → {tops' : List ℕ} {x : Result (Unit {0}) RootInside}
+      → Answer (events s) bars (Follows (events s) bars n m tops₁ tops') x → Answer (events s) bars (Caught (events s) bars c done (set done c (get_or tops c 0)) tops tops') x
   caught n m en em h l {o} eo {tops₁} r a =
-      let t = trace s in
+      let t = events s in
       let size = g.following.long in
       let inside : c < length done = omega arith in
       let here = get_or-set_same done c (get_or tops c 0) 0 inside in
@@ -132,7 +133,7 @@ module _ {s bars done tops : List ℕ} (g : Going s bars done tops) (c : ℕ) wh
           forked = λ j v q.
               by_cases (eqb (thread_of t j) c)
               (λ z.
-              let e = fork-same t g.links.good.well_formed j n v vn (eqb-true _ _ z ∙ sym tn) in
+              let e = fork-same t s.links.good.well_formed j n v vn (eqb-true _ _ z ∙ sym tn) in
               record { covers = rw (e, ← eo) (let x = f.grown.up (thread_of t o) in let y = k.covers in omega arith) })
               (λ z.
               let other = get_or-set_other done c (thread_of t j) (get_or tops c 0) 0 (eqb-false _ _ z) in

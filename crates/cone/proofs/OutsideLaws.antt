@@ -18,7 +18,8 @@ use Rattle.model.proofs.Tests.{by_cases}
 use Rattle.model.proofs.Lists.{mem_place}
 use Rattle.model.proofs.ConeEvents.{cone_valid}
 use Rattle.table.specs.Links.{previous, waits_for, release_of}
-use Rattle.table.specs.Table.{trace}
+use Rattle.table.specs.declared.judged.Table.{Table}
+use Rattle.table.specs.Judged.{events}
 use Rattle.table.proofs.LinkFacts.{previous_earlier, previous_last, reads_observed, joined_last, joined_thread, fork-only, acquires_release}
 use Rattle.cone.specs.declared.RootInside.{RootInside}
 use Rattle.cone.specs.Tops.{Rooted, Told, none_in, one_in}
@@ -111,23 +112,23 @@ pub told : {t : Trace} {R bars : List ℕ} → Bars t R bars → {tops : List �
 told {R = R} s (reached {c = c} l ne w) b e = rw e (one_in (s.root c l ne) (w.inside R s))
 told s (going g) b e = rw e g
 
-module _ {s R bars done tops : List ℕ} (g : Rooted s R) (b : Bars (trace s) R bars) (p : Seeded (trace s) bars R 0 done tops) (level : (c : ℕ) → c ≤ max_thread → get_or tops c 0 ≤ get_or done c 0) where
+module _ {s : Table} {R bars done tops : List ℕ} (g : Rooted s R) (b : Bars (events s) R bars) (p : Seeded (events s) bars R 0 done tops) (level : (c : ℕ) → c ≤ max_thread → get_or tops c 0 ≤ get_or done c 0) where
   abbrev t : Trace
-  t = trace s
+  t = events s
 
   -- event k is up to the top of its thread
   abbrev Under : ℕ → Type 0
   Under k = k ≤ get_or tops (thread_of t k) 0
 
   all_brought : (k : ℕ) → Valid t k → Under k → Brought t bars tops k
-  all_brought k v u = let l = level (thread_of t k) (g.links.good.thread_limit k v) in p.still.followed k v (omega arith)
+  all_brought k v u = let l = level (thread_of t k) (s.links.good.thread_limit k v) in p.still.followed k v (omega arith)
 
   all_forked : (k : ℕ) → Valid t k → Under k → Forked t tops k
-  all_forked k v u = let l = level (thread_of t k) (g.links.good.thread_limit k v) in p.still.forked k v (omega arith)
+  all_forked k v u = let l = level (thread_of t k) (s.links.good.thread_limit k v) in p.still.forked k v (omega arith)
 
   -- what an event waits for is such a one: its thread's fork, and where the event is such a one the joined thread's events
   forked_under : (k j : ℕ) → Valid t k → Forked t tops k → kind_of t j ≡ fork → object_of t j ≡ thread_of t k → Under j
-  forked_under k j v u f o = rw (fork-only t g.links.good.well_formed k v j f o) at u.covers
+  forked_under k j v u f o = rw (fork-only t s.links.good.well_formed k v j f o) at u.covers
 
   -- what such an event brings in is such a one
   reaches : (k j : ℕ) → Valid t k → Under k → Brings t R k j → Under j
@@ -142,7 +143,7 @@ module _ {s R bars done tops : List ℕ} (g : Rooted s R) (b : Bars (trace s) R 
   reaches k j v u (observes c o ne) = let q : waits_for t k ≡ j = reads_observed t k c ∙ o in rw q at (all_brought k v u).seen
   reaches k j v u (closes c out o ne) =
       let q : release_of t k ≡ j = acquires_release t k c ∙ o in
-      let lc = g.links.good.thread_limit k v in
+      let lc = s.links.good.thread_limit k v in
       rw q at ((all_brought k v u).closing (root_no bars (thread_of t k) (λ y. out (get_or bars (thread_of t k) 0) (b.root (thread_of t k) lc y) (b.barred.thread (thread_of t k) lc y))))
 
   all : {k : ℕ} → InCone t R k → Under k
@@ -171,11 +172,11 @@ module _ {s R bars done tops : List ℕ} (g : Rooted s R) (b : Bars (trace s) R 
   root_above : (r : ℕ) → r ∈ R → ¬ InCone t R r
   root_above r m x =
       let u = all x in
-      let y = p.still.sound.below (thread_of t r) (g.links.good.thread_limit r (b.valid r m)) in
+      let y = p.still.sound.below (thread_of t r) (s.links.good.thread_limit r (b.valid r m)) in
       let z = b.bar r m in
       let w : ⊥ = omega arith in w
 
-  none_reached : Told (trace s) R tops true
+  none_reached : Told (events s) R tops true
   none_reached =
       none_in root_above
       (record {
@@ -183,5 +184,5 @@ module _ {s R bars done tops : List ℕ} (g : Rooted s R) (b : Bars (trace s) R 
         topped = record { valid = λ c ne. (p.still.sound.within c ne).valid; thread = p.still.sound.thread };
       })
 
-pub told_out : {s R bars done tops : List ℕ} → Rooted s R → Bars (trace s) R bars → Seeded (trace s) bars R 0 done tops → {b : Bool} → Behind done tops b → b ≡ false → Answer (trace s) bars (Told (trace s) R tops true) (Ok tt)
+pub told_out : {s : Table} {R bars done tops : List ℕ} → Rooted s R → Bars (events s) R bars → Seeded (events s) bars R 0 done tops → {b : Bool} → Behind done tops b → b ≡ false → Answer (events s) bars (Told (events s) R tops true) (Ok tt)
 told_out g b p d e = going (none_reached g b p (behind_none d e))

@@ -16,7 +16,8 @@ use Rattle.model.specs.Good.{max_thread}
 use Rattle.model.specs.Cone.{Earlier, Precedes, brought, precedes}
 use Rattle.model.proofs.Tests.{by_cases}
 use Rattle.model.proofs.ConeEvents.{precedes_valid}
-use Rattle.table.specs.Table.{trace}
+use Rattle.table.specs.declared.judged.Table.{Table}
+use Rattle.table.specs.Judged.{events}
 use Rattle.cone.specs.declared.RootInside.{RootInside}
 use Rattle.cone.specs.Following.{no_root, Within, Coming, Raising, Grown, Answer, reached, going, Raised}
 
@@ -66,36 +67,36 @@ grown_set l c k h le = record {
 
 -- ---- `raise`
 
-module _ {s bars tops : List ℕ} (g : Raising s bars tops) {k : ℕ} (w : Coming (trace s) bars k) where
+module _ {s : Table} {bars tops : List ℕ} (g : Raising s bars tops) {k : ℕ} (w : Coming (events s) bars k) where
   abbrev t : Trace
-  t = trace s
+  t = events s
 
   -- no event
-  pub raise_none : k < 1 → Answer (trace s) bars (Raised (trace s) bars k tops tops) (Ok tt)
+  pub raise_none : k < 1 → Answer (events s) bars (Raised (events s) bars k tops tops) (Ok tt)
   raise_none h = let z : k ≡ 0 = omega arith in going (record { sound = g.sound; grown = grown_none tops; covers = rw z (omega arith) })
 
   module _ (h : 1 ≤ k) where
     here : Within t bars k
     here = w.within (omega arith)
 
-    pub raise_valid : Valid (trace s) k
+    pub raise_valid : Valid (events s) k
     raise_valid = here.valid
 
     module _ (c : ℕ) (ec : c ≡ thread_of t k) (lc : c ≤ max_thread) where
       -- already up to the top
-      pub raise_under : (x : ℕ) → x ≡ get_or tops c 0 → k ≤ x → Answer (trace s) bars (Raised (trace s) bars k tops tops) (Ok tt)
+      pub raise_under : (x : ℕ) → x ≡ get_or tops c 0 → k ≤ x → Answer (events s) bars (Raised (events s) bars k tops tops) (Ok tt)
       raise_under x ex le = going (record { sound = g.sound; grown = grown_none tops; covers = rw (← ec, ← ex) le })
 
       -- the root of the thread is reached
-      pub raise_reached : (y : ℕ) → y ≡ get_or bars c 0 → y ≤ k → {e : RootInside} → Answer (trace s) bars (Raised (trace s) bars k tops tops) (Err e)
+      pub raise_reached : (y : ℕ) → y ≡ get_or bars c 0 → y ≤ k → {e : RootInside} → Answer (events s) bars (Raised (events s) bars k tops tops) (Err e)
       raise_reached y ey le =
-          let size = g.links.good.size in
+          let size = s.links.good.size in
           let v = here.valid.bounded in
           let ne : get_or bars c 0 ≢ no_root = λ z. let u : ⊥ = omega arith in u in
           let b = (g.barred.valid c lc ne).positive in
           reached lc ne (within_upto here (get_or bars c 0) b (omega arith) (g.barred.thread c lc ne ∙ ec))
 
-      pub raise_up : get_or tops c 0 < k → k < get_or bars c 0 → Answer (trace s) bars (Raised (trace s) bars k tops (set tops c k)) (Ok tt)
+      pub raise_up : get_or tops c 0 < k → k < get_or bars c 0 → Answer (events s) bars (Raised (events s) bars k tops (set tops c k)) (Ok tt)
       raise_up up low =
           let inside : c < length tops = let z = g.sound.long in omega arith in
           let top = get_or-set_same tops c k 0 inside in
@@ -121,4 +122,4 @@ module _ {s bars tops : List ℕ} (g : Raising s bars tops) {k : ℕ} (w : Comin
           })
 
     pub raise_fits : Fits w16 k
-    raise_fits = let a = here.valid.bounded in let b = g.links.good.size in record { fits = omega arith }
+    raise_fits = let a = here.valid.bounded in let b = s.links.good.size in record { fits = omega arith }

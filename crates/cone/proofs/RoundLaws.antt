@@ -21,7 +21,8 @@ use Rattle.model.proofs.Tests.{by_cases, clash}
 use Rattle.model.proofs.ConeEvents.{precedes_valid}
 use Rattle.model.proofs.Lists.{get_d_mem}
 use Rattle.table.specs.Links.{previous, fork_of}
-use Rattle.table.specs.Table.{trace, Linked}
+use Rattle.table.specs.declared.judged.Table.{Table}
+use Rattle.table.specs.Judged.{events}
 use Rattle.table.proofs.LinkFacts.{previous_earlier, fork_awaited}
 use Rattle.cone.specs.declared.RootInside.{RootInside}
 use Rattle.cone.specs.Following.{no_root, Bars, Within, Coming, Answer, going, Raised, Following, Going, Caught, Round, Behind, one_behind, none_behind, IsRoot, BeforeRoot, Started, Seeded}
@@ -70,15 +71,15 @@ behind_none (none_behind f) e = f
 
 -- ---- `round`
 
-module _ {s bars done tops : List ℕ} (g : Going s bars done tops) where
-  pub round_start : Round (trace s) bars 0 done done tops tops
+module _ {s : Table} {bars done tops : List ℕ} (g : Going s bars done tops) where
+  pub round_start : Round (events s) bars 0 done done tops tops
   round_start = record { still = g.following; grown = grown_none tops; further = grown_none done; reaches = λ c l. absurd (omega arith) }
 
-  module _ {c : ℕ} {done' tops' : List ℕ} (p : Round (trace s) bars c done done' tops tops') where
+  module _ {c : ℕ} {done' tops' : List ℕ} (p : Round (events s) bars c done done' tops tops') where
     pub round_going : Going s bars done' tops'
-    round_going = record { links = g.links; barred = g.barred; following = p.still }
+    round_going = record { barred = g.barred; following = p.still }
 
-    pub round_more : {done'' tops'' : List ℕ} → Answer (trace s) bars (Caught (trace s) bars c done' done'' tops' tops'') (Ok tt) → Round (trace s) bars (c + 1) done done'' tops tops''
+    pub round_more : {done'' tops'' : List ℕ} → Answer (events s) bars (Caught (events s) bars c done' done'' tops' tops'') (Ok tt) → Round (events s) bars (c + 1) done done'' tops tops''
     round_more a =
         let f = goes a in
         record {
@@ -91,29 +92,29 @@ module _ {s bars done tops : List ℕ} (g : Going s bars done tops) where
               (λ q. let ne = eqb-false d c q in let x = p.reaches d (omega arith) in let y = f.further.up d in omega arith);
         }
 
-    pub round_end : max_thread + 1 ≤ c → Answer (trace s) bars (Round (trace s) bars (max_thread + 1) done done' tops tops') (Ok tt)
+    pub round_end : max_thread + 1 ≤ c → Answer (events s) bars (Round (events s) bars (max_thread + 1) done done' tops tops') (Ok tt)
     round_end h = going (record { still = p.still; grown = p.grown; further = p.further; reaches = λ d l. p.reaches d (omega arith) })
 
 -- ---- `start`
 
-module _ {s : List ℕ} (links : Linked s) {bars : List ℕ} where
-  before_root : (p r : ℕ) → IsRoot (trace s) bars r → Precedes (trace s) p r → Within (trace s) bars p
+module _ (s : Table) {bars : List ℕ} where
+  before_root : (p r : ℕ) → IsRoot (events s) bars r → Precedes (events s) p r → Within (events s) bars p
   before_root p r i x =
-      let t = trace s in
+      let t = events s in
       let v = i.valid in
-      let size = links.good.size in
+      let size = s.links.good.size in
       let high = v.bounded in
       let ne : get_or bars (thread_of t r) 0 ≢ no_root = λ z. let y = i.bar in let u : ⊥ = omega arith in u in
       record {
         valid = precedes_valid t p r v x;
-        inside = λ R b. let m = b.root (thread_of t r) (links.good.thread_limit r v) ne in root (rw i.bar at m) x;
+        inside = λ R b. let m = b.root (thread_of t r) (s.links.good.thread_limit r v) ne in root (rw i.bar at m) x;
       }
 
-  pub start_coming : (p r : ℕ) → p ≡ previous (trace s) r → IsRoot (trace s) bars r → Coming (trace s) bars p
-  start_coming p r e i = record { within = λ q. rw e (before_root (previous (trace s) r) r i (inl (previous_earlier (trace s) r (rw e at q)))) }
+  pub start_coming : (p r : ℕ) → p ≡ previous (events s) r → IsRoot (events s) bars r → Coming (events s) bars p
+  start_coming p r e i = record { within = λ q. rw e (before_root (previous (events s) r) r i (inl (previous_earlier (events s) r (rw e at q)))) }
 
-  pub start_forked : (p r : ℕ) → p ≡ fork_of (trace s) r → IsRoot (trace s) bars r → Coming (trace s) bars p
-  start_forked p r e i = record { within = λ q. rw e (before_root (fork_of (trace s) r) r i (inr (fork_awaited (trace s) r (rw e at q)))) }
+  pub start_forked : (p r : ℕ) → p ≡ fork_of (events s) r → IsRoot (events s) bars r → Coming (events s) bars p
+  start_forked p r e i = record { within = λ q. rw e (before_root (fork_of (events s) r) r i (inr (fork_awaited (events s) r (rw e at q)))) }
 
 module _ {t : Trace} {bars : List ℕ} where
   pub before_both : {o p r : ℕ} → o ≡ fork_of t r → p ≡ previous t r → {tops tops₁ tops' : List ℕ} {x : Result (Unit {0}) RootInside}
@@ -143,7 +144,7 @@ module _ {t : Trace} {bars : List ℕ} where
 
 -- ---- `seed`
 
-pub seed_start : {s bars done tops : List ℕ} → Going s bars done tops → (R : List ℕ) (i : ℕ) → i ≡ length R → Seeded (trace s) bars R i done tops
+pub seed_start : {s : Table} {bars done tops : List ℕ} → Going s bars done tops → (R : List ℕ) (i : ℕ) → i ≡ length R → Seeded (events s) bars R i done tops
 seed_start g R i e = record { still = g.following; covers = λ n l h. absurd (omega arith); forked = λ n l h. absurd (omega arith) }
 
 pub seed_root : {t : Trace} {R bars : List ℕ} → Bars t R bars → (r i : ℕ) → r ≡ get_or R i 0 → i < length R → IsRoot t bars r

@@ -18,7 +18,8 @@ use Rattle.model.specs.Good.{Good, max_thread}
 use Rattle.model.proofs.Tests.{by_cases, both, true_both, false_test, just-true, true-just}
 use Rattle.model.proofs.Lists.{keep-reverse}
 use Rattle.table.specs.Links.{previous}
-use Rattle.table.specs.Table.{trace}
+use Rattle.table.specs.declared.judged.Table.{Table}
+use Rattle.table.specs.Judged.{events}
 use Rattle.table.proofs.LinkFacts.{previous_less, previous_earlier, previous_last}
 use Rattle.cone.specs.Split.{is_under, under, Splits, Moved, Others, is_of, Putting, Highest}
 
@@ -92,10 +93,10 @@ module _ (t : Trace) (m : ℕ) (tops : List ℕ) where
       let y = previous_last t j k (record { first = omega arith; less = l; thread = e ∙ sym ek }) in
       let z : ⊥ = omega arith in z)
 
-module _ {s tops : List ℕ} {m : ℕ} {out : List ℕ} (g : Splits s tops m out) where
-  pub moved-start : (k r : ℕ) → k ≡ get_or tops m 0 → r ≡ length out → Moving (trace s) m tops k r out
+module _ {s : Table} {tops : List ℕ} {m : ℕ} {out : List ℕ} (g : Splits s tops m out) where
+  pub moved-start : (k r : ℕ) → k ≡ get_or tops m 0 → r ≡ length out → Moving (events s) m tops k r out
   moved-start k r ek er =
-      let t = trace s in
+      let t = events s in
       let room = g.room in
       let v : k ≢ 0 → Valid t k = λ ne. rw ek (g.topped.valid m (rw ek at ne)) in
       let n : k ≤ length t = by_cases (eqb k 0) (λ q. let z = eqb-true k 0 q in omega arith) (λ q. (v (eqb-false k 0 q)).bounded) in
@@ -203,23 +204,23 @@ module _ {tops : List ℕ} {n k : ℕ} (p : Highest tops n k) where
 
 -- ---- `others`
 
-pub others_start : {s tops : List ℕ} {m : ℕ} {out : List ℕ} → Splits s tops m out → Putting (trace s) m tops 1 0 out
+pub others_start : {s : Table} {tops : List ℕ} {m : ℕ} {out : List ℕ} → Splits s tops m out → Putting (events s) m tops 1 0 out
 others_start g = record { room = g.room; low = omega arith; few = omega arith; is = refl }
 
-module _ {s tops : List ℕ} {m : ℕ} {start : List ℕ} (g : Splits s tops m start) {n : ℕ} (h : Highest tops (max_thread + 1) n) where
-  low : n ≤ length (trace s)
-  low = h.least (length (trace s)) (λ c. by_cases (eqb (get_or tops c 0) 0) (λ q. let z : get_or tops c 0 ≡ 0 = eqb-true _ _ q in omega arith) (λ q. (g.topped.valid c (eqb-false _ _ q)).bounded))
+module _ {s : Table} {tops : List ℕ} {m : ℕ} {start : List ℕ} (g : Splits s tops m start) {n : ℕ} (h : Highest tops (max_thread + 1) n) where
+  low : n ≤ length (events s)
+  low = h.least (length (events s)) (λ c. by_cases (eqb (get_or tops c 0) 0) (λ q. let z : get_or tops c 0 ≡ 0 = eqb-true _ _ q in omega arith) (λ q. (g.topped.valid c (eqb-false _ _ q)).bounded))
 
   pub others_fit : Fits w64 (n + 1)
-  others_fit = let a = low in let b = g.links.good.size in record { fits = omega arith }
+  others_fit = let a = low in let b = s.links.good.size in record { fits = omega arith }
 
-  module _ {k r : ℕ} {out : List ℕ} (p : Putting (trace s) m tops k r out) where
-    pub others_valid : k ≤ n → Valid (trace s) k
+  module _ {k r : ℕ} {out : List ℕ} (p : Putting (events s) m tops k r out) where
+    pub others_valid : k ≤ n → Valid (events s) k
     others_valid l = let a = p.few in let b = low in record { positive = omega arith; bounded = omega arith }
 
-    pub others_end : n < k → k ≤ n + 1 → Others (trace s) m tops r out
+    pub others_end : n < k → k ≤ n + 1 → Others (events s) m tops r out
     others_end l u =
-        let t = trace s in
+        let t = events s in
         let few = p.few in
         let b = low in
         let e : k ≡ suc n = omega arith in
@@ -227,7 +228,7 @@ module _ {s tops : List ℕ} {m : ℕ} {start : List ℕ} (g : Splits s tops m s
         keep_gap (is_of t (all_but m) tops) n (length t) b (λ j x y.
         false_test (true_of t (all_but m) tops j) (λ z.
         let v = z.1 in
-        let c = g.links.good.thread_limit j (record { positive = omega arith; bounded = y }) in
+        let c = s.links.good.thread_limit j (record { positive = omega arith; bounded = y }) in
         let w = h.above (thread_of t j) (omega arith) in
         let o : ⊥ = omega arith in o)) in
         record {

@@ -5,7 +5,8 @@ use Rattle.model.specs.Lists.{◌∈◌}
 use Rattle.model.specs.Good.{max_thread}
 use Rattle.model.specs.Cone.{InCone}
 use Rattle.table.specs.Links.{previous, waits_for, release_of, fork_of}
-use Rattle.table.specs.Table.{trace, Linked}
+use Rattle.table.specs.declared.judged.Table.{Table}
+use Rattle.table.specs.Judged.{events}
 use Rattle.cone.specs.declared.RootInside.{RootInside}
 
 -- ---- the roots by thread
@@ -48,11 +49,10 @@ pub record Sound (t : Trace) (bars tops : List ℕ) : Type 0 where
   pub thread : (c : ℕ) → get_or tops c 0 ≢ 0 → thread_of t (get_or tops c 0) ≡ c
   pub below : (c : ℕ) → c ≤ max_thread → get_or tops c 0 < get_or bars c 0
 
--- a table, the bars and the tops so far
-pub record Raising (s bars tops : List ℕ) : Type 0 where
-  pub links : Linked s
-  pub barred : Barred (trace s) bars
-  pub sound : Sound (trace s) bars tops
+-- a judged recording's table, the bars and the tops so far
+pub record Raising (s : Table) (bars tops : List ℕ) : Type 0 where
+  pub barred : Barred (events s) bars
+  pub sound : Sound (events s) bars tops
 
 -- no place falls
 pub record Grown (l l' : List ℕ) : Type 0 where
@@ -99,11 +99,10 @@ pub record Following (t : Trace) (bars done tops : List ℕ) : Type 0 where
   pub followed : (j : ℕ) → Valid t j → j ≤ get_or done (thread_of t j) 0 → Brought t bars tops j
   pub forked : (j : ℕ) → Valid t j → j ≤ get_or done (thread_of t j) 0 → Forked t tops j
 
--- a table, the bars, the tops so far, and how far each thread was followed
-pub record Going (s bars done tops : List ℕ) : Type 0 where
-  pub links : Linked s
-  pub barred : Barred (trace s) bars
-  pub following : Following (trace s) bars done tops
+-- a judged recording's table, the bars, the tops so far, and how far each thread was followed
+pub record Going (s : Table) (bars done tops : List ℕ) : Type 0 where
+  pub barred : Barred (events s) bars
+  pub following : Following (events s) bars done tops
 
 -- so have those of thread c up to its top
 pub record Caught (t : Trace) (bars : List ℕ) (c : ℕ) (done done' tops tops' : List ℕ) : Type 0 where

@@ -3,7 +3,8 @@ use Rattle.std.specs.Prelude.{ℕ, ◌+◌, ◌≤◌, ◌<◌, ◌≡◌, Bool,
 use Rattle.model.specs.Trace.{Trace, thread_of}
 use Rattle.model.specs.Lists.{up_to, before, keep, only, own, all_but}
 use Rattle.model.specs.Good.{max_thread}
-use Rattle.table.specs.Table.{trace, Linked}
+use Rattle.table.specs.declared.judged.Table.{Table}
+use Rattle.table.specs.Judged.{events}
 use Rattle.cone.specs.Tops.{Topped}
 
 -- event k is up to the top of its thread
@@ -14,12 +15,11 @@ is_under t tops k = leb k (get_or tops (thread_of t k) 0)
 unfoldable pub under : Trace → List ℕ → List ℕ
 under t tops = reverse (keep (is_under t tops) (up_to (length t)))
 
--- a table with its links, the tops of its threads, one of these, and room for a list of events
-pub record Splits (s tops : List ℕ) (m : ℕ) (out : List ℕ) : Type 0 where
-  pub links : Linked s
-  pub topped : Topped (trace s) tops
+-- a judged recording's table, the tops of its threads, one of these, and room for a list of events
+pub record Splits (s : Table) (tops : List ℕ) (m : ℕ) (out : List ℕ) : Type 0 where
+  pub topped : Topped (events s) tops
   pub thread : m ≤ max_thread
-  pub room : length (trace s) ≤ length out
+  pub room : length (events s) ≤ length out
 
 -- thread m's are the places of out from r on
 pub record Moved (t : Trace) (m : ℕ) (tops : List ℕ) (r : ℕ) (out : List ℕ) : Type 0 where

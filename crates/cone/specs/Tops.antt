@@ -5,13 +5,13 @@ use Rattle.model.specs.Lists.{◌∈◌}
 use Rattle.model.specs.Good.{max_thread}
 use Rattle.model.specs.Cone.{InCone}
 use Rattle.model.specs.Race.{Apart}
-use Rattle.table.specs.Table.{trace, Linked}
+use Rattle.table.specs.declared.judged.Table.{Table}
+use Rattle.table.specs.Judged.{events}
 
--- what the cone is made of: a table with its links, and the roots, events of different threads, none of them a join
-pub record Rooted (s R : List ℕ) : Type 0 where
-  pub links : Linked s
-  pub apart : Apart (trace s) R
-  pub no_join : (r : ℕ) → r ∈ R → kind_of (trace s) r ≢ join
+-- what the cone is made of: a judged recording's table, and the roots, events of different threads, none of them a join
+pub record Rooted (s : Table) (R : List ℕ) : Type 0 where
+  pub apart : Apart (events s) R
+  pub no_join : (r : ℕ) → r ∈ R → kind_of (events s) r ≢ join
 
 -- place c is 0, or an event of thread c
 pub record Topped (t : Trace) (tops : List ℕ) : Type 0 where

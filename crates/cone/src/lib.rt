@@ -28,7 +28,7 @@ fn place(list: &[u16; Thread::COUNT], c: usize) -> usize
 
 // The root of each thread; NO_ROOT where it has none.
 fn bars_of(table: &Table, roots: &[u16]) -> [u16; Thread::COUNT]
-    requires { Rooted table.now.words.now roots.now }
+    requires { Rooted table.now roots.now }
     ensures { Bars (events table.now) roots.now result }
 {
     let mut bars = [NO_ROOT; Thread::COUNT];
@@ -64,7 +64,7 @@ impl Search<'_> {
 
     // Event k, if it is one, is in the cone: the top of its thread is no lower. A link of the table is 0 where there is no event.
     fn raise(&self, k: usize, tops: &mut [u16; Thread::COUNT]) -> Result<(), RootInside>
-        requires { Raising self.now.table.words.now self.now.bars tops.old × Coming (events self.now.table) self.now.bars k }
+        requires { Raising self.now.table self.now.bars tops.old × Coming (events self.now.table) self.now.bars k }
         ensures { Answer (events self.now.table) self.now.bars (Raised (events self.now.table) self.now.bars k tops.old tops.new) result }
     {
         if k < 1 {
@@ -89,7 +89,7 @@ impl Search<'_> {
         exempt: bool,
         tops: &mut [u16; Thread::COUNT],
     ) -> Result<(), RootInside>
-        requires { Raising self.now.table.words.now self.now.bars tops.old × (Within (events self.now.table) self.now.bars k × (exempt ≡ has_root self.now.bars (thread_of (events self.now.table) k))) }
+        requires { Raising self.now.table self.now.bars tops.old × (Within (events self.now.table) self.now.bars k × (exempt ≡ has_root self.now.bars (thread_of (events self.now.table) k))) }
         ensures { Answer (events self.now.table) self.now.bars (BringsIn (events self.now.table) self.now.bars k tops.old tops.new) result }
     {
         self.raise(self.table.waits_at(k), tops)?;
@@ -106,7 +106,7 @@ impl Search<'_> {
         to: usize,
         tops: &mut [u16; Thread::COUNT],
     ) -> Result<(), RootInside>
-        requires { Raising self.now.table.words.now self.now.bars tops.old × Within (events self.now.table) self.now.bars from }
+        requires { Raising self.now.table self.now.bars tops.old × Within (events self.now.table) self.now.bars from }
         ensures { Answer (events self.now.table) self.now.bars (Follows (events self.now.table) self.now.bars from to tops.old tops.new) result }
     {
         let exempt = self.has_root(from);
@@ -126,7 +126,7 @@ impl Search<'_> {
         done: &mut [u16; Thread::COUNT],
         tops: &mut [u16; Thread::COUNT],
     ) -> Result<(), RootInside>
-        requires { Going self.now.table.words.now self.now.bars done.old tops.old × (c ≤ max_thread) }
+        requires { Going self.now.table self.now.bars done.old tops.old × (c ≤ max_thread) }
         ensures { Answer (events self.now.table) self.now.bars (Caught (events self.now.table) self.now.bars c done.old done.new tops.old tops.new) result }
     {
         let from = place(tops, c);
@@ -145,7 +145,7 @@ impl Search<'_> {
         done: &mut [u16; Thread::COUNT],
         tops: &mut [u16; Thread::COUNT],
     ) -> Result<(), RootInside>
-        requires { Going self.now.table.words.now self.now.bars done.old tops.old }
+        requires { Going self.now.table self.now.bars done.old tops.old }
         ensures { Answer (events self.now.table) self.now.bars (Round (events self.now.table) self.now.bars (max_thread + 1) done.old done.new tops.old tops.new) result }
     {
         for c in 0..Thread::COUNT {
@@ -156,7 +156,7 @@ impl Search<'_> {
 
     // What must stand before root r is in the cone: the fork of its thread, and the event before it there (rule i).
     fn before_root(&self, r: usize, tops: &mut [u16; Thread::COUNT]) -> Result<(), RootInside>
-        requires { Raising self.now.table.words.now self.now.bars tops.old × IsRoot (events self.now.table) self.now.bars r }
+        requires { Raising self.now.table self.now.bars tops.old × IsRoot (events self.now.table) self.now.bars r }
         ensures { Answer (events self.now.table) self.now.bars (BeforeRoot (events self.now.table) self.now.bars r tops.old tops.new) result }
     {
         self.raise(self.table.forked_at(r), tops)?;
@@ -170,7 +170,7 @@ impl Search<'_> {
         done: &mut [u16; Thread::COUNT],
         tops: &mut [u16; Thread::COUNT],
     ) -> Result<(), RootInside>
-        requires { Going self.now.table.words.now self.now.bars done.old tops.old × IsRoot (events self.now.table) self.now.bars r }
+        requires { Going self.now.table self.now.bars done.old tops.old × IsRoot (events self.now.table) self.now.bars r }
         ensures { Answer (events self.now.table) self.now.bars (Started (events self.now.table) self.now.bars r done.new tops.old tops.new) result }
     {
         self.before_root(r, tops)?;
@@ -184,7 +184,7 @@ impl Search<'_> {
         done: &mut [u16; Thread::COUNT],
         tops: &mut [u16; Thread::COUNT],
     ) -> Result<(), RootInside>
-        requires { Going self.now.table.words.now self.now.bars done.old tops.old × Bars (events self.now.table) roots.now self.now.bars }
+        requires { Going self.now.table self.now.bars done.old tops.old × Bars (events self.now.table) roots.now self.now.bars }
         ensures { Answer (events self.now.table) self.now.bars (Seeded (events self.now.table) self.now.bars roots.now 0 done.new tops.new) result }
     {
         for &r in roots.iter().rev() {
@@ -195,7 +195,7 @@ impl Search<'_> {
 
     // The whole cone: from the roots, and then in rounds, until no thread is followed less far than its top.
     fn reach(&self, roots: &[u16], tops: &mut [u16; Thread::COUNT]) -> Result<(), RootInside>
-        requires { Rooted self.now.table.words.now roots.now × (Bars (events self.now.table) roots.now self.now.bars × (tops.old ≡ replicate (max_thread + 1) 0)) }
+        requires { Rooted self.now.table roots.now × (Bars (events self.now.table) roots.now self.now.bars × (tops.old ≡ replicate (max_thread + 1) 0)) }
         ensures { Answer (events self.now.table) self.now.bars (Told (events self.now.table) roots.now tops.new true) result }
     {
         let mut done = [0u16; Thread::COUNT];
@@ -217,7 +217,7 @@ fn behind(done: &[u16; Thread::COUNT], tops: &[u16; Thread::COUNT]) -> bool
 // Is no root in the causal cone of the roots? Then the tops are how far it reaches into each thread; they are lent as 0.
 #[tactic(auto, using(crate::proofs::OutsideLaws::told))]
 pub fn outside(table: &Table, roots: &[u16], tops: &mut [u16; Thread::COUNT]) -> bool
-    requires { Rooted table.now.words.now roots.now × (tops.old ≡ replicate (max_thread + 1) 0) }
+    requires { Rooted table.now roots.now × (tops.old ≡ replicate (max_thread + 1) 0) }
     ensures { Told (events table.now) roots.now tops.new result }
 {
     let search = Search {
@@ -239,7 +239,7 @@ pub fn beyond(tops: &[u16; Thread::COUNT], m: u8, n: u8) -> bool
 
 // Thread m's events up to its top, found from the last one back, so they are put at the end of out, in the trace's order. Gives the place of the first.
 pub fn moved(table: &Table, m: u8, tops: &[u16; Thread::COUNT], out: &mut [u16]) -> usize
-    requires { Splits table.now.words.now tops.now m out.old }
+    requires { Splits table.now tops.now m out.old }
     ensures { Moved (events table.now) m tops.now result out.new }
 {
     let mut r = out.len();
@@ -277,7 +277,7 @@ fn highest(tops: &[u16; Thread::COUNT]) -> usize
 
 // The events of all threads but m up to their tops, in the front of out, in the trace's order. Gives how many there are.
 pub fn others(table: &Table, m: u8, tops: &[u16; Thread::COUNT], out: &mut [u16]) -> usize
-    requires { Splits table.now.words.now tops.now m out.old }
+    requires { Splits table.now tops.now m out.old }
     ensures { Others (events table.now) m tops.now result out.new }
 {
     let mut r = 0;

@@ -13,7 +13,7 @@ pub is_other-requires : goal.is_other-requires
 is_other-requires c = search (others_valid, rules)
 
 pub overflow_cast-out : goal.overflow_cast-out
-overflow_cast-out c = put_fits c.loop-k.invariant (others_valid c.requires c.highest-k-end.ensures c.loop-k.invariant (omega arith)) c.requires.links.good
+overflow_cast-out c = put_fits c.loop-k.invariant (others_valid c.requires c.highest-k-end.ensures c.loop-k.invariant (omega arith)) c.args.table.now.links.good
 
 pub bounds-out-r : goal.bounds-out-r
 bounds-out-r c = put_room c.loop-k.invariant (others_valid c.requires c.highest-k-end.ensures c.loop-k.invariant (omega arith))

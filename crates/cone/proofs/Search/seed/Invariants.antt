@@ -1,7 +1,7 @@
 use Rattle.std.proofs.Common.{length, ◌-◌}
-use Rattle.table.specs.Table.{trace}
+use Rattle.table.specs.Judged.{events}
 use Rattle.cone.specs.Following.{Seeded}
 use Rattle.cone.proofs.Search.seed.Given as goal
 
 abbrev pub invariant-loop-r : goal.invariant-loop-r
-invariant-loop-r l = Seeded (trace l.self.table.words.now) l.self.bars l.roots (length l.roots - length l.yielded) l.done l.tops
+invariant-loop-r l = Seeded (events l.self.table) l.self.bars l.roots (length l.roots - length l.yielded) l.done l.tops
