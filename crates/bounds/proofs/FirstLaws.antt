@@ -24,7 +24,8 @@ use Rattle.decision.specs.Stairs.{is_overwriting}
 use Rattle.decision.proofs.CheckExact.{awaited_true, true_awaited}
 use Rattle.decision.proofs.IntervalTests.{observed-true, true-observed}
 use Rattle.stairs.specs.Stairs.{at}
-use Rattle.table.specs.Table.{trace}
+use Rattle.table.specs.declared.judged.Table.{Table}
+use Rattle.table.specs.Judged.{events}
 use Rattle.table.specs.Links.{waits_for, fork_of}
 use Rattle.table.specs.Entries.{Entries}
 use Rattle.table.proofs.LinkFacts.{waits_less, waits_cases, reads_observed, joined_last, joined_thread, fork_less, fork_on, fork-only}
@@ -49,9 +50,9 @@ own-true t m w e =
 
 -- ---- `note_reads`
 
-module _ {s : List ℕ} {m : ℕ} {P : List ℕ} {k i : ℕ} {seen : List ℕ} (p : Reading s m P k i seen) where
+module _ {s : Table} {m : ℕ} {P : List ℕ} {k i : ℕ} {seen : List ℕ} (p : Reading s m P k i seen) where
   abbrev t : Trace
-  t = trace s
+  t = events s
 
   pub reading_stop : i < length P → (e : ℕ) → e ≡ get_or P i 0 → k ≤ e → Read s m P k i seen
   reading_stop h e ee l = record { reading = p; all = λ y n lt. below_passed P i p.up h y n (omega arith) }
@@ -63,22 +64,21 @@ module _ {s : List ℕ} {m : ℕ} {P : List ℕ} {k i : ℕ} {seen : List ℕ} (
       rw e (record { reading = p; all = λ e n l. rw (passed-all P i h) (reverse_mem n) })
 
   module _ (h : i < length P) (e : ℕ) (ee : e ≡ get_or P i 0) where
-    pub reading_valid : Valid (trace s) e
+    pub reading_valid : Valid (events s) e
     reading_valid = rw ee (p.valid (get_or P i 0) (get_d_mem P i h))
 
     knows_more : Entries (last_read t m (e ∷ passed P i)) max_object (with_read t m e seen)
     unfolding with_read
     knows_more =
-        let g = p.links.good in
+        let g = s.links.good in
         by_cases (is_outside t m e)
         (λ o. rw o (entries_put p.knows (last_read t m (e ∷ passed P i)) (object_of t e) e (object_small t g e reading_valid) (rw (o, eq-eqb (object_of t e) (object_of t e) refl)) (λ y ne. rw (o, ne_eqb (object_of t e) y (λ z. ne (sym z))))))
         (λ o. rw o (entries-same p.knows (last_read t m (e ∷ passed P i)) (λ y. rw o)))
 
-    pub reading_more : e < k → {seen' : List ℕ} → seen' ≡ with_read (trace s) m e seen → Reading s m P k (i + 1) seen'
+    pub reading_more : e < k → {seen' : List ℕ} → seen' ≡ with_read (events s) m e seen → Reading s m P k (i + 1) seen'
     reading_more lt q =
         let a : passed P (suc i) ≡ e ∷ passed P i = passed-suc P i h ∙ ap (λ (x : ℕ). x ∷ passed P i) (sym ee) in
         rw (q, add-one i) (record {
-          links = p.links;
           valid = p.valid;
           up = p.up;
           few = omega arith;
@@ -88,9 +88,9 @@ module _ {s : List ℕ} {m : ℕ} {P : List ℕ} {k i : ℕ} {seen : List ℕ} (
 
 -- ---- what it is
 
-module _ (s : List ℕ) {m : ℕ} {P Q : List ℕ} (g : Parts (trace s) m P Q) where
+module _ (s : Table) {m : ℕ} {P Q : List ℕ} (g : Parts (events s) m P Q) where
   abbrev t₁ : Trace
-  t₁ = trace s
+  t₁ = events s
 
   -- a read's observed write is P's own exactly when it is of the moved thread
   own_in : (k : ℕ) → (k ∈ P) ⊎ (k ∈ Q) → kind_of t₁ k ≡ read → is_own t₁ m (observed t₁ k) ≡ true → observed t₁ k ∈ P
@@ -184,7 +184,7 @@ module _ (s : List ℕ) {m : ℕ} {P Q : List ℕ} (g : Parts (trace s) m P Q) w
     unfolding action_bound
     acting =
         by_cases (eqb (kind_of t₁ k) write)
-        (λ e. let l = object_small t₁ r.reading.links.good k (g.others k n) in rw (e, r.reading.knows.is (object_of t₁ k) l) (written (eqb-true _ _ e)))
+        (λ e. let l = object_small t₁ s.links.good k (g.others k n) in rw (e, r.reading.knows.is (object_of t₁ k) l) (written (eqb-true _ _ e)))
         (λ e. rw e (waiting (eqb-false _ _ e)))
 
     forking : Last P (λ p. does t₁ fork (thread_of t₁ k) p ≡ true) (own_event t₁ m (fork_of t₁ k))
@@ -192,7 +192,7 @@ module _ (s : List ℕ) {m : ℕ} {P Q : List ℕ} (g : Parts (trace s) m P Q) w
     forking = record {
       above = λ p i₁ f.
           let d = does-true t₁ fork (thread_of t₁ k) p f in
-          let e : fork_of t₁ k ≡ p = fork-only t₁ r.reading.links.good.well_formed k (g.others k n) p d.0 d.1 in
+          let e : fork_of t₁ k ≡ p = fork-only t₁ s.links.good.well_formed k (g.others k n) p d.0 d.1 in
           rw (e, in_own p i₁) (omega arith);
       from =
           by_cases (is_own t₁ m (fork_of t₁ k))
@@ -222,15 +222,15 @@ module _ (s : List ℕ) {m : ℕ} {P Q : List ℕ} (g : Parts (trace s) m P Q) w
 
 -- ---- `add_first`
 
-pub record Firsts (s : List ℕ) (m : ℕ) (P Q need₀ : List ℕ) (i j : ℕ) (seen need : List ℕ) : Type 0 where
+pub record Firsts (s : Table) (m : ℕ) (P Q need₀ : List ℕ) (i j : ℕ) (seen need : List ℕ) : Type 0 where
   pub same : length need ≡ length need₀
   pub given : Given s m P Q need
   pub few : i ≤ length P
   pub below : j < length Q → (e : ℕ) → e ∈ passed P i → e < get_or Q j 0
-  pub knows : Entries (last_read (trace s) m (passed P i)) max_object seen
-  pub is : (k : ℕ) → k ∈ passed Q j → Last P (λ p. First (trace s) P p k) (at need k)
+  pub knows : Entries (last_read (events s) m (passed P i)) max_object seen
+  pub is : (k : ℕ) → k ∈ passed Q j → Last P (λ p. First (events s) P p k) (at need k)
 
-pub firsts_start : {s : List ℕ} {m : ℕ} {P Q need : List ℕ} → Given s m P Q need → Firsts s m P Q need 0 0 (replicate (max_object + 1) 0) need
+pub firsts_start : {s : Table} {m : ℕ} {P Q need : List ℕ} → Given s m P Q need → Firsts s m P Q need 0 0 (replicate (max_object + 1) 0) need
 firsts_start g = record {
   same = refl;
   given = g;
@@ -240,21 +240,21 @@ firsts_start g = record {
   is = λ k n. absurd (Memᴰ.not-nil n);
 }
 
-module _ {s : List ℕ} {m : ℕ} {P Q need₀ : List ℕ} {i j : ℕ} {seen need : List ℕ} (p : Firsts s m P Q need₀ i j seen need) where
-  pub firsts_end : length Q ≤ j → Needed s m P Q (First (trace s) P) need
+module _ {s : Table} {m : ℕ} {P Q need₀ : List ℕ} {i j : ℕ} {seen need : List ℕ} (p : Firsts s m P Q need₀ i j seen need) where
+  pub firsts_end : length Q ≤ j → Needed s m P Q (First (events s) P) need
   firsts_end h = record { given = p.given; are = record { is = λ k n. p.is k (rw (passed-all Q j h) (reverse_mem n)) } }
 
   module _ (h : j < length Q) (k : ℕ) (ek : k ≡ get_or Q j 0) where
     here : k ∈ Q
     here = rw ek (get_d_mem Q j h)
 
-    pub firsts_valid : Valid (trace s) k
+    pub firsts_valid : Valid (events s) k
     firsts_valid = p.given.parts.others k here
 
     pub firsts_room : k < length need
     firsts_room = let b = firsts_valid.bounded in let r = p.given.room in omega arith
 
-    pub firsts_more : {r : ℕ} {seen' : List ℕ} → Read s m P k r seen' → (x : ℕ) → x ≡ first_bound (trace s) m k seen' → Firsts s m P Q need₀ r (j + 1) seen' (set need k x)
+    pub firsts_more : {r : ℕ} {seen' : List ℕ} → Read s m P k r seen' → (x : ℕ) → x ≡ first_bound (events s) m k seen' → Firsts s m P Q need₀ r (j + 1) seen' (set need k x)
     firsts_more {r} {seen'} d x ex =
         let l = length-set need k x in
         let z = p.given.room in
@@ -262,7 +262,7 @@ module _ {s : List ℕ} {m : ℕ} {P Q need₀ : List ℕ} {i j : ℕ} {seen nee
         let u = p.given.parts.others_up in
         rw (add-one j) (record {
           same = l ∙ p.same;
-          given = record { links = p.given.links; parts = p.given.parts; room = omega arith };
+          given = record { parts = p.given.parts; room = omega arith };
           few = d.reading.few;
           below = λ h' e n.
               let lt = d.reading.below e n in

@@ -26,7 +26,8 @@ use Rattle.decision.specs.Stairs.{is_opening, is_alike, is_within, is_overwritin
 use Rattle.model.proofs.MatchingExact.{matching_ends}
 use Rattle.decision.proofs.IntervalTests.{alike_true, true_alike, true_opening}
 use Rattle.stairs.specs.Stairs.{at}
-use Rattle.table.specs.Table.{trace, Linked}
+use Rattle.table.specs.declared.judged.Table.{Table}
+use Rattle.table.specs.Judged.{events}
 use Rattle.table.specs.Links.{began}
 use Rattle.table.proofs.BeganFacts.{opening_began, began_opening, began_within, within_began}
 use Rattle.bounds.specs.Parts.{Parts}
@@ -37,12 +38,12 @@ use Rattle.bounds.proofs.OverLaws.{raised-length, raised_here, raised-other}
 
 -- ---- `note_sections`
 
-pub record Noting (s : List ℕ) (m : ℕ) (P Q ends : List ℕ) (i : ℕ) (last : List ℕ) : Type 0 where
+pub record Noting (s : Table) (m : ℕ) (P Q ends : List ℕ) (i : ℕ) (last : List ℕ) : Type 0 where
   pub ended : Ended s m P Q ends
   pub long : max_object < length last
-  pub is : (x : ℕ) → x ≤ max_object → Last P (InSection (trace s) (passed P i) x) (at last x)
+  pub is : (x : ℕ) → x ≤ max_object → Last P (InSection (events s) (passed P i) x) (at last x)
 
-pub noting_start : {s : List ℕ} {m : ℕ} {P Q ends last : List ℕ} → Ended s m P Q ends → last ≡ replicate (max_object + 1) 0 → Noting s m P Q ends 0 last
+pub noting_start : {s : Table} {m : ℕ} {P Q ends last : List ℕ} → Ended s m P Q ends → last ≡ replicate (max_object + 1) 0 → Noting s m P Q ends 0 last
 noting_start e z =
     let l = length-replicate {A = ℕ} (max_object + 1) 0 in
     rw z (record {
@@ -51,8 +52,8 @@ noting_start e z =
       is = λ x h. record { above = λ p n f. absurd (Memᴰ.not-nil f.passed); from = inl (get_or-replicate (max_object + 1) x 0 0 (omega arith)) };
     })
 
-module _ {s : List ℕ} {m : ℕ} {P Q ends : List ℕ} {i : ℕ} {last : List ℕ} (p : Noting s m P Q ends i last) where
-  pub noting_end : length P ≤ i → Sections (trace s) P last
+module _ {s : Table} {m : ℕ} {P Q ends : List ℕ} {i : ℕ} {last : List ℕ} (p : Noting s m P Q ends i last) where
+  pub noting_end : length P ≤ i → Sections (events s) P last
   noting_end h =
       let a = passed-all P i h in record {
         is = λ x b.
@@ -64,12 +65,12 @@ module _ {s : List ℕ} {m : ℕ} {P Q ends : List ℕ} {i : ℕ} {last : List �
 
   module _ (h : i < length P) (v : ℕ) (ev : v ≡ get_or P i 0) where
     abbrev t : Trace
-    t = trace s
+    t = events s
 
     here : v ∈ P
     here = rw ev (get_d_mem P i h)
 
-    pub noting_valid : Valid (trace s) v
+    pub noting_valid : Valid (events s) v
     noting_valid = p.ended.given.parts.moved v here
 
     step : passed P (suc i) ≡ v ∷ passed P i
@@ -119,7 +120,7 @@ module _ {s : List ℕ} {m : ℕ} {P Q ends : List ℕ} {i : ℕ} {last : List �
         (λ d.
         let e : x ≡ object_of t v = eqb-true _ _ d in
         let l = p.long in
-        let o = object_small t p.ended.given.links.good v noting_valid in
+        let o = object_small t s.links.good v noting_valid in
         rw (e, raised_here last (object_of t v) (at ends v) (omega arith)) (with_new (object_of t v) (last_two (at last (object_of t v)) (at ends v) (p.is (object_of t v) o) (last_new (eqb-true _ _ a)))))
         (λ d.
         let ne = eqb-false x (object_of t v) d in
@@ -130,7 +131,7 @@ module _ {s : List ℕ} {m : ℕ} {P Q ends : List ℕ} {i : ℕ} {last : List �
     unfolding with_section
     with_length = by_cases (eqb (kind_of t v) acquire) (λ o. rw o (raised-length last (object_of t v) (at ends v))) (λ o. rw o)
 
-    pub noting_more : {last' : List ℕ} → last' ≡ with_section (trace s) v ends last → Noting s m P Q ends (i + 1) last'
+    pub noting_more : {last' : List ℕ} → last' ≡ with_section (events s) v ends last → Noting s m P Q ends (i + 1) last'
     noting_more q =
         let l = with_length in
         let z = p.long in
@@ -158,9 +159,9 @@ module _ (t : Trace) (k : ℕ) where
 
 -- ---- what a section of Q needs
 
-module _ (s : List ℕ) {m : ℕ} {P Q tops last : List ℕ} (l : Linked s) (g : Parts (trace s) m P Q) (c : Covers (trace s) m Q tops) (sec : Sections (trace s) P last) where
+module _ (s : Table) {m : ℕ} {P Q tops last : List ℕ} (g : Parts (events s) m P Q) (c : Covers (events s) m Q tops) (sec : Sections (events s) P last) where
   abbrev t₁ : Trace
-  t₁ = trace s
+  t₁ = events s
 
   -- its end is in Q exactly when it is not beyond its thread's top
   open_is : (k : ℕ) → k ∈ Q → is_open_in t₁ tops k ≡ is_outermost t₁ k && not (listed (matching t₁ k) Q)
@@ -196,7 +197,7 @@ module _ (s : List ℕ) {m : ℕ} {P Q tops last : List ℕ} (l : Linked s) (g :
       let ne : began t₁ p ≢ 0 = λ z. let u : ⊥ = omega arith in u in
       let o : is_opening t₁ f.start ≡ true = rw e at (began_opening t₁ p ne) in
       let out = outer t₁ f.start f.acquires o in
-      any_mem _ f.passed (true_both (true_alike t₁ f.start q (f.lock, inr (out, oq))) (rw e at (began_within t₁ l.good.well_formed p (g.moved p n) ne)))
+      any_mem _ f.passed (true_both (true_alike t₁ f.start q (f.lock, inr (out, oq))) (rw e at (began_within t₁ s.links.good.well_formed p (g.moved p n) ne)))
 
   section_in : (q p : ℕ) → is_outermost t₁ q ≡ true → p ∈ P → any_in (λ v. is_alike t₁ v q && is_within t₁ v p) P ≡ true → InSection t₁ P (object_of t₁ q) p
   section_in q p oq n e =
@@ -210,7 +211,7 @@ module _ (s : List ℕ) {m : ℕ} {P Q tops last : List ℕ} (l : Linked s) (g :
         passed = y.1;
         acquires = outermost_acquires t₁ v o;
         lock = a.0;
-        inside = within_began t₁ l.good.well_formed v p (g.moved v y.1) (g.moved p n) (true_opening t₁ v (inr o)) b.1;
+        inside = within_began t₁ s.links.good.well_formed v p (g.moved v y.1) (g.moved p n) (true_opening t₁ v (inr o)) b.1;
       }
 
   -- all lower bounds
@@ -262,7 +263,7 @@ module _ (s : List ℕ) {m : ℕ} {P Q tops last : List ℕ} (l : Linked s) (g :
       let oq = (both (is_outermost t₁ k) (not (listed (matching t₁ k) Q)) a).0 in
       let x = object_of t₁ k in
       let new : Last P (λ p. is_unended t₁ P Q p k ≡ true) (at last x) =
-      last_map (λ p i z. true_both a (in_section k p oq i z)) (λ p i z. section_in k p oq i (both (is_outermost t₁ k && not (listed (matching t₁ k) Q)) _ z).1) (sec.is x (object_small t₁ l.good k (g.others k n))) in
+      last_map (λ p i z. true_both a (in_section k p oq i z)) (λ p i z. section_in k p oq i (both (is_outermost t₁ k && not (listed (matching t₁ k) Q)) _ z).1) (sec.is x (object_small t₁ s.links.good k (g.others k n))) in
       rw (o, raised_here need k (at last x) room) (last_map (λ p i z. three_bound p k z) (λ p i z. bound_three p k z) (last_two (at need k) (at last x) f new)))
       (λ o.
       let a : is_outermost t₁ k && not (listed (matching t₁ k) Q) ≡ false = sym (open_is k n) ∙ o in
@@ -270,37 +271,37 @@ module _ (s : List ℕ) {m : ℕ} {P Q tops last : List ℕ} (l : Linked s) (g :
 
 -- ---- `add_opens`
 
-pub record Opens (s : List ℕ) (m : ℕ) (tops P Q last need₀ : List ℕ) (j : ℕ) (need : List ℕ) : Type 0 where
+pub record Opens (s : Table) (m : ℕ) (tops P Q last need₀ : List ℕ) (j : ℕ) (need : List ℕ) : Type 0 where
   pub same : length need ≡ length need₀
   pub given : Given s m P Q need
-  pub covers : Covers (trace s) m Q tops
-  pub sections : Sections (trace s) P last
-  pub done : (k : ℕ) → k ∈ passed Q j → Last P (λ p. is_bound (trace s) P Q p k ≡ true) (at need k)
-  pub left : (k : ℕ) → k ∈ Q → (j < length Q → get_or Q j 0 ≤ k) → j < length Q → Last P (λ p. FirstTwo (trace s) P p k) (at need k)
+  pub covers : Covers (events s) m Q tops
+  pub sections : Sections (events s) P last
+  pub done : (k : ℕ) → k ∈ passed Q j → Last P (λ p. is_bound (events s) P Q p k ≡ true) (at need k)
+  pub left : (k : ℕ) → k ∈ Q → (j < length Q → get_or Q j 0 ≤ k) → j < length Q → Last P (λ p. FirstTwo (events s) P p k) (at need k)
 
-pub opens_start : {s : List ℕ} {m : ℕ} {tops P Q last need : List ℕ} → Covers (trace s) m Q tops → Sections (trace s) P last → Needed s m P Q (FirstTwo (trace s) P) need → Opens s m tops P Q last need 0 need
+pub opens_start : {s : Table} {m : ℕ} {tops P Q last need : List ℕ} → Covers (events s) m Q tops → Sections (events s) P last → Needed s m P Q (FirstTwo (events s) P) need → Opens s m tops P Q last need 0 need
 opens_start c x n = record { same = refl; given = n.given; covers = c; sections = x; done = λ k i. absurd (Memᴰ.not-nil i); left = λ k i l h. n.are.is k i }
 
-module _ {s : List ℕ} {m : ℕ} {tops P Q last need₀ : List ℕ} {j : ℕ} {need : List ℕ} (p : Opens s m tops P Q last need₀ j need) where
-  pub opens_end : length Q ≤ j → Needed s m P Q (Bound (trace s) P Q) need
+module _ {s : Table} {m : ℕ} {tops P Q last need₀ : List ℕ} {j : ℕ} {need : List ℕ} (p : Opens s m tops P Q last need₀ j need) where
+  pub opens_end : length Q ≤ j → Needed s m P Q (Bound (events s) P Q) need
   opens_end h = record { given = p.given; are = record { is = λ k n. p.done k (rw (passed-all Q j h) (reverse_mem n)) } }
 
   module _ (h : j < length Q) (k : ℕ) (ek : k ≡ get_or Q j 0) where
     in_Q : k ∈ Q
     in_Q = rw ek (get_d_mem Q j h)
 
-    pub opens_valid : Valid (trace s) k
+    pub opens_valid : Valid (events s) k
     opens_valid = p.given.parts.others k in_Q
 
-    open_length : length (with_open (trace s) tops k last need) ≡ length need
+    open_length : length (with_open (events s) tops k last need) ≡ length need
     unfolding with_open
-    open_length = by_cases (is_open_in (trace s) tops k) (λ o. rw o (raised-length need k (at last (object_of (trace s) k)))) (λ o. rw o)
+    open_length = by_cases (is_open_in (events s) tops k) (λ o. rw o (raised-length need k (at last (object_of (events s) k)))) (λ o. rw o)
 
-    open_other : (y : ℕ) → y ≢ k → at (with_open (trace s) tops k last need) y ≡ at need y
+    open_other : (y : ℕ) → y ≢ k → at (with_open (events s) tops k last need) y ≡ at need y
     unfolding with_open
-    open_other y ne = by_cases (is_open_in (trace s) tops k) (λ o. rw o (raised-other need k (at last (object_of (trace s) k)) y ne)) (λ o. rw o)
+    open_other y ne = by_cases (is_open_in (events s) tops k) (λ o. rw o (raised-other need k (at last (object_of (events s) k)) y ne)) (λ o. rw o)
 
-    pub opens_more : {need' : List ℕ} → need' ≡ with_open (trace s) tops k last need → Opens s m tops P Q last need₀ (j + 1) need'
+    pub opens_more : {need' : List ℕ} → need' ≡ with_open (events s) tops k last need → Opens s m tops P Q last need₀ (j + 1) need'
     opens_more q =
         let l = open_length in
         let z = p.given.room in
@@ -309,12 +310,12 @@ module _ {s : List ℕ} {m : ℕ} {tops P Q last need₀ : List ℕ} {j : ℕ} {
         let a : passed Q (suc j) ≡ k ∷ passed Q j = passed-suc Q j h ∙ ap (λ (y : ℕ). y ∷ passed Q j) (sym ek) in
         rw (q, add-one j) (record {
           same = l ∙ p.same;
-          given = record { links = p.given.links; parts = p.given.parts; room = omega arith };
+          given = record { parts = p.given.parts; room = omega arith };
           covers = p.covers;
           sections = p.sections;
           done = λ y n.
               in_cons (rw a at n)
-              (λ e. rw e (opened_is s p.given.links p.given.parts p.covers p.sections need k in_Q (omega arith) (p.left k in_Q (λ h₁. rw ek (omega arith)) h)))
+              (λ e. rw e (opened_is s p.given.parts p.covers p.sections need k in_Q (omega arith) (p.left k in_Q (λ h₁. rw ek (omega arith)) h)))
               (λ i.
               let lt = passed_below Q j u h y i in
               let ne : y ≢ k = λ e. let v : ⊥ = omega arith in v in

@@ -22,7 +22,8 @@ use Rattle.decision.specs.Rounds.{is_observed}
 use Rattle.decision.specs.Stairs.{is_read_over}
 use Rattle.decision.proofs.IntervalTests.{observed-true, true-observed}
 use Rattle.stairs.specs.Stairs.{at}
-use Rattle.table.specs.Table.{trace}
+use Rattle.table.specs.declared.judged.Table.{Table}
+use Rattle.table.specs.Judged.{events}
 use Rattle.table.specs.Entries.{Entries, with_write}
 use Rattle.table.proofs.EntryLaws.{entries_new, write_known}
 use Rattle.bounds.specs.Bounds.{is_own, Last, Needs, Given, Needed}
@@ -47,13 +48,13 @@ module _ (l : List ℕ) (k v : ℕ) where
 
 -- ---- `add_over`
 
-pub record Overs (s : List ℕ) (m : ℕ) (P Q need₀ : List ℕ) (i : ℕ) (last need : List ℕ) : Type 0 where
+pub record Overs (s : Table) (m : ℕ) (P Q need₀ : List ℕ) (i : ℕ) (last need : List ℕ) : Type 0 where
   pub same : length need ≡ length need₀
   pub given : Given s m P Q need
-  pub knows : Entries (λ x. last_write (trace s) x (passed P i)) max_object last
-  pub is : Needs P Q (λ p k. First (trace s) P p k ⊎ Over (trace s) (passed P i) p k) need
+  pub knows : Entries (λ x. last_write (events s) x (passed P i)) max_object last
+  pub is : Needs P Q (λ p k. First (events s) P p k ⊎ Over (events s) (passed P i) p k) need
 
-pub overs_start : {s : List ℕ} {m : ℕ} {P Q need : List ℕ} → Needed s m P Q (First (trace s) P) need → Overs s m P Q need 0 (replicate (max_object + 1) 0) need
+pub overs_start : {s : Table} {m : ℕ} {P Q need : List ℕ} → Needed s m P Q (First (events s) P) need → Overs s m P Q need 0 (replicate (max_object + 1) 0) need
 overs_start n = record {
   same = refl;
   given = n.given;
@@ -61,8 +62,8 @@ overs_start n = record {
   is = record { is = λ k i. last_map (λ p j f. inl f) (λ p j f. ⊎_elim (λ z. z) (λ z. absurd (Memᴰ.not-nil z.1)) f) (n.are.is k i) };
 }
 
-module _ {s : List ℕ} {m : ℕ} {P Q need₀ : List ℕ} {i : ℕ} {last need : List ℕ} (p : Overs s m P Q need₀ i last need) where
-  pub overs_end : length P ≤ i → Needed s m P Q (FirstTwo (trace s) P) need
+module _ {s : Table} {m : ℕ} {P Q need₀ : List ℕ} {i : ℕ} {last need : List ℕ} (p : Overs s m P Q need₀ i last need) where
+  pub overs_end : length P ≤ i → Needed s m P Q (FirstTwo (events s) P) need
   unfolding is_read_over
   overs_end h = record {
     given = p.given;
@@ -75,8 +76,8 @@ module _ {s : List ℕ} {m : ℕ} {P Q need₀ : List ℕ} {i : ℕ} {last need 
           ⊎_elim inl
           (λ z.
           let y = mem_any _ P z in
-          let b = both (is_observed (trace s) y.0 k) _ y.2 in
-          let c = both (does (trace s) write (object_of (trace s) y.0) q) (ltb q y.0) b.1 in
+          let b = both (is_observed (events s) y.0 k) _ y.2 in
+          let c = both (does (events s) write (object_of (events s) y.0) q) (ltb q y.0) b.1 in
           inr (y.0, rw a (reverse_mem y.1), b.0, c.0, ltb-true q y.0 c.1))
           f)
           (p.is.is k n);
@@ -85,19 +86,19 @@ module _ {s : List ℕ} {m : ℕ} {P Q need₀ : List ℕ} {i : ℕ} {last need 
 
   module _ (h : i < length P) (e : ℕ) (ee : e ≡ get_or P i 0) where
     abbrev t : Trace
-    t = trace s
+    t = events s
 
     here : e ∈ P
     here = rw ee (get_d_mem P i h)
 
-    pub overs_valid : Valid (trace s) e
+    pub overs_valid : Valid (events s) e
     overs_valid = p.given.parts.moved e here
 
     step : passed P (suc i) ≡ e ∷ passed P i
     step = passed-suc P i h ∙ ap (λ (x : ℕ). x ∷ passed P i) (sym ee)
 
     knows_more : Entries (λ x. last_write t x (e ∷ passed P i)) max_object (with_write t e last)
-    knows_more = write_known t e (passed P i) p.given.links.good overs_valid p.knows
+    knows_more = write_known t e (passed P i) s.links.good overs_valid p.knows
 
     -- what e adds for the write k of Q
     abbrev New : ℕ → ℕ → Type 0
@@ -127,7 +128,7 @@ module _ {s : List ℕ} {m : ℕ} {P Q need₀ : List ℕ} {i : ℕ} {last need 
     last_new k o =
         let x = object_of t e in
         let test : ℕ → Bool = λ q. does t write x q in
-        rw (p.knows.is x (object_small t p.given.links.good e overs_valid)) (record {
+        rw (p.knows.is x (object_small t s.links.good e overs_valid)) (record {
           above = λ q j f. passed_last test P i q p.given.parts.moved_up (below_passed P i p.given.parts.moved_up h q j (rw ee at f.2)) f.1;
           from =
               by_cases (eqb (nearest test (passed P i)) 0) (λ z. inl (eqb-true _ _ z)) (λ z.
@@ -162,20 +163,20 @@ module _ {s : List ℕ} {m : ℕ} {P Q need₀ : List ℕ} {i : ℕ} {last need 
         let nk : k ≢ 0 = λ y. let u : ⊥ = omega arith in u in
         clash (true_both (eq-eqb _ _ a.0) (true_both (ap not (ne_eqb w 0 (λ y. nk (sym ew ∙ y)))) (ap not (not_own k n w ew)))) o)))
       where
-        not_own : (k : ℕ) → k ∈ Q → (w : ℕ) → w ≡ k → is_own (trace s) m w ≡ false
-        not_own k n w q = by_cases (is_own (trace s) m w) (λ z. absurd (p.given.parts.others_thread k n (rw q at (own-true (trace s) m w z).1))) (λ z. z)
+        not_own : (k : ℕ) → k ∈ Q → (w : ℕ) → w ≡ k → is_own (events s) m w ≡ false
+        not_own k n w q = by_cases (is_own (events s) m w) (λ z. absurd (p.given.parts.others_thread k n (rw q at (own-true (events s) m w z).1))) (λ z. z)
 
     with_length : length (with_over t m e last need) ≡ length need
     unfolding with_over
     with_length = by_cases (eqb (kind_of t e) read && is_other t m (observed t e)) (λ o. rw o (raised-length need (observed t e) (at last (object_of t e)))) (λ o. rw o)
 
-    pub overs_more : {need' last' : List ℕ} → need' ≡ with_over (trace s) m e last need → last' ≡ with_write (trace s) e last → Overs s m P Q need₀ (i + 1) last' need'
+    pub overs_more : {need' last' : List ℕ} → need' ≡ with_over (events s) m e last need → last' ≡ with_write (events s) e last → Overs s m P Q need₀ (i + 1) last' need'
     overs_more q r =
         let l = with_length in
         let z = p.given.room in
         rw (q, r, add-one i) (record {
           same = l ∙ p.same;
-          given = record { links = p.given.links; parts = p.given.parts; room = omega arith };
+          given = record { parts = p.given.parts; room = omega arith };
           knows = rw step knows_more;
           is = record { is = is_more };
         })

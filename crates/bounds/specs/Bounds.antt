@@ -4,7 +4,8 @@ use Rattle.model.specs.Trace.{Trace, Valid, thread_of}
 use Rattle.model.specs.Lists.{◌∈◌, nearest, just}
 use Rattle.decision.specs.Stairs.{is_bound}
 use Rattle.stairs.specs.Stairs.{at}
-use Rattle.table.specs.Table.{trace, Linked}
+use Rattle.table.specs.declared.judged.Table.{Table}
+use Rattle.table.specs.Judged.{events}
 use Rattle.table.specs.Links.{began}
 use Rattle.bounds.specs.Parts.{Parts}
 
@@ -33,19 +34,18 @@ pub record Needs (P Q : List ℕ) (F : ℕ → ℕ → Type 0) (need : List ℕ)
 abbrev pub Bound : Trace → List ℕ → List ℕ → ℕ → ℕ → Type 0
 Bound t P Q p k = is_bound t P Q p k ≡ true
 
--- a table of a recording with its links, the two lists of a cone, and a table by event
-pub record Given (s : List ℕ) (m : ℕ) (P Q by : List ℕ) : Type 0 where
-  pub links : Linked s
-  pub parts : Parts (trace s) m P Q
-  pub room : length (trace s) < length by
+-- the two lists of a cone of a judged recording, and a table by event
+pub record Given (s : Table) (m : ℕ) (P Q by : List ℕ) : Type 0 where
+  pub parts : Parts (events s) m P Q
+  pub room : length (events s) < length by
 
 -- what is given, with the ends of P's intervals
-pub record Ended (s : List ℕ) (m : ℕ) (P Q ends : List ℕ) : Type 0 where
+pub record Ended (s : Table) (m : ℕ) (P Q ends : List ℕ) : Type 0 where
   pub given : Given s m P Q ends
-  pub are : Ends (trace s) P ends
+  pub are : Ends (events s) P ends
 
 -- and with what each event of Q needs by F
-pub record Needed (s : List ℕ) (m : ℕ) (P Q : List ℕ) (F : ℕ → ℕ → Type 0) (need : List ℕ) : Type 0 where
+pub record Needed (s : Table) (m : ℕ) (P Q : List ℕ) (F : ℕ → ℕ → Type 0) (need : List ℕ) : Type 0 where
   pub given : Given s m P Q need
   pub are : Needs P Q F need
 

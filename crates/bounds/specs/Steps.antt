@@ -11,7 +11,8 @@ use Rattle.model.specs.Sections.{is_outermost}
 use Rattle.model.specs.Cone.{matching}
 use Rattle.decision.specs.Stairs.{is_overwriting, is_read_over}
 use Rattle.stairs.specs.Stairs.{at}
-use Rattle.table.specs.Table.{trace, Linked}
+use Rattle.table.specs.declared.judged.Table.{Table}
+use Rattle.table.specs.Judged.{events}
 use Rattle.table.specs.Links.{waits_for, began, fork_of}
 use Rattle.table.specs.Entries.{Entries}
 use Rattle.bounds.specs.Bounds.{is_own, Last}
@@ -37,16 +38,15 @@ unfoldable pub with_read : Trace → ℕ → ℕ → List ℕ → List ℕ
 with_read t m e seen = cond (is_outside t m e) (set seen (object_of t e) e) seen
 
 -- i events of P, all below event k, have passed, and `seen` has the last of those reads for each cell
-pub record Reading (s : List ℕ) (m : ℕ) (P : List ℕ) (k i : ℕ) (seen : List ℕ) : Type 0 where
-  pub links : Linked s
-  pub valid : (e : ℕ) → e ∈ P → Valid (trace s) e
+pub record Reading (s : Table) (m : ℕ) (P : List ℕ) (k i : ℕ) (seen : List ℕ) : Type 0 where
+  pub valid : (e : ℕ) → e ∈ P → Valid (events s) e
   pub up : Increasing P
   pub few : i ≤ length P
   pub below : (e : ℕ) → e ∈ passed P i → e < k
-  pub knows : Entries (last_read (trace s) m (passed P i)) max_object seen
+  pub knows : Entries (last_read (events s) m (passed P i)) max_object seen
 
 -- all events of P below event k have
-pub record Read (s : List ℕ) (m : ℕ) (P : List ℕ) (k i : ℕ) (seen : List ℕ) : Type 0 where
+pub record Read (s : Table) (m : ℕ) (P : List ℕ) (k i : ℕ) (seen : List ℕ) : Type 0 where
   pub reading : Reading s m P k i seen
   pub all : (e : ℕ) → e ∈ P → e < k → e ∈ passed P i
 

@@ -37,8 +37,8 @@ fn add_end(table: &Table, m: u8, e: usize, ends: &mut [u16])
 
 // Where the interval ends that each event of p begins.
 fn add_ends(table: &Table, m: u8, p: &[u16], q: &[u16], ends: &mut [u16])
-    requires { Given table.now.words.now m p.now q.now ends.old }
-    ensures { Ended table.now.words.now m p.now q.now ends.new }
+    requires { Given table.now m p.now q.now ends.old }
+    ensures { Ended table.now m p.now q.now ends.new }
 {
     for e in p {
         add_end(table, m, usize::from(*e), ends);
@@ -75,8 +75,8 @@ fn note_reads(
     from: usize,
     k: usize,
 ) -> usize
-    requires { Reading table.now.words.now m p.now k from seen.old }
-    ensures { Read table.now.words.now m p.now k result seen.new }
+    requires { Reading table.now m p.now k from seen.old }
+    ensures { Read table.now m p.now k result seen.new }
 {
     for i in from..p.len() {
         let e = usize::from(p[i]);
@@ -123,8 +123,8 @@ fn first_bound(table: &Table, m: u8, k: usize, seen: &[u16; Event::OBJECTS]) -> 
 
 // What each event of q needs by what it waits for, observed or overwrote. The two lists are walked in the trace's order.
 fn add_first(table: &Table, m: u8, p: &[u16], q: &[u16], need: &mut [u16])
-    requires { Given table.now.words.now m p.now q.now need.old }
-    ensures { Needed table.now.words.now m p.now q.now (First (events table.now) p.now) need.new }
+    requires { Given table.now m p.now q.now need.old }
+    ensures { Needed table.now m p.now q.now (First (events table.now) p.now) need.new }
 {
     let mut seen = [0u16; Event::OBJECTS];
     let mut i = 0;
@@ -183,8 +183,8 @@ fn read_over(table: &Table, m: u8, e: usize, last: &[u16; Event::OBJECTS], need:
 
 // What each write of q needs by the reads of p that observed it.
 fn add_over(table: &Table, m: u8, p: &[u16], q: &[u16], need: &mut [u16])
-    requires { Needed table.now.words.now m p.now q.now (First (events table.now) p.now) need.old }
-    ensures { Needed table.now.words.now m p.now q.now (FirstTwo (events table.now) p.now) need.new }
+    requires { Needed table.now m p.now q.now (First (events table.now) p.now) need.old }
+    ensures { Needed table.now m p.now q.now (FirstTwo (events table.now) p.now) need.new }
 {
     let mut last = [0u16; Event::OBJECTS];
     for event in p {
@@ -216,7 +216,7 @@ fn note_sections(
     ends: &[u16],
     last: &mut [u16; Event::OBJECTS],
 )
-    requires ended { Ended table.now.words.now m p.now q.now ends.now }
+    requires ended { Ended table.now m p.now q.now ends.now }
     requires last_value { last.old ≡ replicate (max_object + 1) 0 }
     ensures { Sections (events table.now) p.now last.new }
 {
@@ -268,8 +268,8 @@ fn add_opens(
     need: &mut [u16],
 )
     requires covers { Covers (events table.now) m q.now tops.now × Sections (events table.now) p.now last.now }
-    requires needed { Needed table.now.words.now m p.now q.now (FirstTwo (events table.now) p.now) need.old }
-    ensures { Needed table.now.words.now m p.now q.now (Bound (events table.now) p.now q.now) need.new }
+    requires needed { Needed table.now m p.now q.now (FirstTwo (events table.now) p.now) need.old }
+    ensures { Needed table.now m p.now q.now (Bound (events table.now) p.now q.now) need.new }
 {
     for k in q {
         add_open(table, tops, usize::from(*k), last, need);
@@ -286,10 +286,10 @@ fn add_unended(
     ends: &[u16],
     need: &mut [u16],
 )
-    requires ended { Ended table.now.words.now m p.now q.now ends.now }
-    requires needed { Needed table.now.words.now m p.now q.now (FirstTwo (events table.now) p.now) need.old }
+    requires ended { Ended table.now m p.now q.now ends.now }
+    requires needed { Needed table.now m p.now q.now (FirstTwo (events table.now) p.now) need.old }
     requires covers { Covers (events table.now) m q.now tops.now }
-    ensures { Needed table.now.words.now m p.now q.now (Bound (events table.now) p.now q.now) need.new }
+    ensures { Needed table.now m p.now q.now (Bound (events table.now) p.now q.now) need.new }
 {
     let mut last = [0u16; Event::OBJECTS];
     note_sections(table, m, p, q, ends, &mut last);
@@ -306,9 +306,9 @@ pub fn fill(
     ends: &mut [u16],
     need: &mut [u16],
 )
-    requires { Given table.now.words.now m p.now q.now ends.old × (Given table.now.words.now m p.now q.now need.old × Covers (events table.now) m q.now tops.now) }
-    ensures ended { Ended table.now.words.now m p.now q.now ends.new }
-    ensures needed { Needed table.now.words.now m p.now q.now (Bound (events table.now) p.now q.now) need.new }
+    requires { Given table.now m p.now q.now ends.old × (Given table.now m p.now q.now need.old × Covers (events table.now) m q.now tops.now) }
+    ensures ended { Ended table.now m p.now q.now ends.new }
+    ensures needed { Needed table.now m p.now q.now (Bound (events table.now) p.now q.now) need.new }
 {
     add_ends(table, m, p, q, ends);
     add_first(table, m, p, q, need);
