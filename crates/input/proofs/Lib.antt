@@ -1,4 +1,2 @@
--- What a caller is told
-pub mod InputLaws
 -- What one more read adds
 mod ReadLaws
