@@ -12,7 +12,7 @@ use Rattle.model.specs.Lists.{threads}
 use Rattle.judging.specs.Judged.{events_of, refusal_of}
 use Rattle.table.specs.Table.{trace}
 use Rattle.opening.specs.Opening.{Opens}
-use Rattle.opening.proofs.OpenLaws.{refused_by, opened_clean, opened_linked, opened_trace}
+use Rattle.opening.proofs.OpenLaws.{refused_by, opened_clean, opened_within, opened_linked, opened_trace}
 use Rattle.limits.specs.declared.Refusal.{Refusal}
 use Rattle.observing.specs.Observing.{observed_in}
 use Rattle.observing.specs.Entries.{observations_in}
@@ -80,3 +80,6 @@ module _ (s : List ℕ) {area area' : List ℕ} where
     pub good-check : (a b : ℕ) (list : List ℕ) (y : Result (RustOption Fault) Refusal) → y ≡ check_in none (trace (take n area')) a b list → y ≡ answer_check s a b list
     unfolding answer_check
     good-check a b list y c = rw (opened_clean o, ← opened_trace o) c
+
+-- what each question's function stands on
+pub ruleset asked = (opened_within, opened_linked, number_fits, refused_judgement, good_judgement, refused_observed, good-observed, refused_observations, good_observations, refused_verdict, good_verdict, refused_next, good-next, refused_check)

@@ -1,6 +1,6 @@
 // The public questions. Each takes a file's bytes, judges them first, and asks nothing of its caller. The writer, which asks nothing either,
 // is `write_file` of the crate writing.
-#![tactic(auto)]
+#![tactic(auto, using(crate::proofs::AnswerLaws::asked))]
 
 ghost use Rattle.std.specs.Prelude.{◌≡◌};
 ghost use Rattle.questions.specs.Answers.{answer_judge, answer_observed};
@@ -93,6 +93,7 @@ pub fn check_reordering(file: &[u8], a: u16, b: u16, list: &[u16]) -> Result<Opt
 }
 
 // Question 6, by where the note stands: it is the first so many bytes of the file, none of a refused one. None: it is the operator's own.
+#[tactic(auto, using(crate::proofs::NoteLaws::refused_noted, crate::proofs::NoteLaws::operators_noted, crate::proofs::NoteLaws::preamble_noted))]
 pub fn note_stands(file: &[u8]) -> Option<usize>
     ensures { result ≡ answer_noted file.now }
 {
