@@ -17,7 +17,8 @@ use Rattle.decision.specs.Decision.{is_conflicting, next_race}
 use Rattle.model.proofs.Tests.{false_test, by_cases}
 use Rattle.decision.proofs.OrderExact.{by_last}
 use Rattle.decision.proofs.ListingExact.{conflicting_exactly, witness_exactly, next_exactly, next-none}
-use Rattle.table.specs.Table.{trace}
+use Rattle.table.specs.declared.judged.Table.{Table}
+use Rattle.table.specs.Judged.{events}
 use Rattle.races.specs.Witness.{WitnessRoom, Shows}
 use Rattle.races.proofs.AnswerLaws.{witnessed-none, witnessed-some, handed-none, handed-some}
 use Rattle.races.specs.Next.{Hands, witness_of, NoRaces, FirstWith, with_none, with_race, HandsWith}
@@ -110,42 +111,42 @@ same e = record { is = e; long = ap length e }
 -- ---- the higher events, one after the other
 
 -- those above b and below y make no race with a
-pub record Trying (table : List ℕ) (a b : ℕ) (list₀ list : List ℕ) (y : ℕ) : Type 0 where
+pub record Trying (table : Table) (a b : ℕ) (list₀ list : List ℕ) (y : ℕ) : Type 0 where
   pub given : WitnessRoom table list₀
   pub same : Same list₀ list
   pub above : b < y
-  pub tried : NoRaces (trace table) a b y
+  pub tried : NoRaces (events table) a b y
 
-pub trying_start : (table : List ℕ) (a b : ℕ) {list : List ℕ} → WitnessRoom table list → Trying table a b list list (b + 1)
+pub trying_start : (table : Table) (a b : ℕ) {list : List ℕ} → WitnessRoom table list → Trying table a b list list (b + 1)
 trying_start table a b r = record { given = r; same = same refl; above = omega arith; tried = λ z p q. absurd (omega arith) }
 
-module _ {table : List ℕ} {a b : ℕ} {list₀ list : List ℕ} {y : ℕ} (p : Trying table a b list₀ list y) where
-  module _ (n : ℕ) (en : n ≡ length (trace table)) where
+module _ {table : Table} {a b : ℕ} {list₀ list : List ℕ} {y : ℕ} (p : Trying table a b list₀ list y) where
+  module _ (n : ℕ) (en : n ≡ length (events table)) where
     pub higher_fits : y ≤ n → Fits w16 y
-    higher_fits h = let s = p.given.links.good.size in record { fits = omega arith }
+    higher_fits h = let s = table.links.good.size in record { fits = omega arith }
 
-    beyond : (z : ℕ) → n < z → witness_of (trace table) a z ≡ none
+    beyond : (z : ℕ) → n < z → witness_of (events table) a z ≡ none
     unfolding witness_of
-    beyond z h = rw (false_test (conflicting_exactly (trace table) a z).0 (λ c. let b = c.second.bounded in omega arith))
+    beyond z h = rw (false_test (conflicting_exactly (events table) a z).0 (λ c. let b = c.second.bounded in omega arith))
 
-    pub with_no_more : n < y → HandsWith (trace table) a b list₀ list None
+    pub with_no_more : n < y → HandsWith (events table) a b list₀ list None
     with_no_more h = record {
       race = none;
       first = with_none (λ x z l m. go z l (dec_lt z y));
       hands = record { says = refl; wrote = p.same.is };
     }
       where
-        go : (z : ℕ) → b < z → Dec (z < y) → witness_of (trace table) a z ≡ none
+        go : (z : ℕ) → b < z → Dec (z < y) → witness_of (events table) a z ≡ none
         go z l (yes q) = p.tried z l q
         go z l (no q) = beyond z (omega arith)
 
   pub trying_lent : WitnessRoom table list
   trying_lent = rw p.same.is p.given
 
-  module _ {list' : List ℕ} (x : RustOption ℕ) (s : Shows (witness_of (trace table) a y) list list' x) where
-    pub with_found : (n : ℕ) → x ≡ Some n → HandsWith (trace table) a b list₀ list' (Some (record { lower = a; higher = y; length = n }))
+  module _ {list' : List ℕ} (x : RustOption ℕ) (s : Shows (witness_of (events table) a y) list list' x) where
+    pub with_found : (n : ℕ) → x ≡ Some n → HandsWith (events table) a b list₀ list' (Some (record { lower = a; higher = y; length = n }))
     with_found n e =
-        let w = witnessed-some (witness_of (trace table) a y) n (sym e ∙ s.says) in record {
+        let w = witnessed-some (witness_of (events table) a y) n (sym e ∙ s.says) in record {
           race = some (record { lower = a; higher = y; witness = w.0 });
           first = with_race y w.0 p.above w.1 p.tried;
           hands = record { says = let f : ℕ → RustOption FoundRace = λ m. Some (record { lower = a; higher = y; length = m }) in ap f w.2; wrote = rw (← p.same.is) (rw w.1 at s.wrote) };
@@ -153,7 +154,7 @@ module _ {table : List ℕ} {a b : ℕ} {list₀ list : List ℕ} {y : ℕ} (p :
 
     pub trying_on : x ≡ None → Trying table a b list₀ list' (y + 1)
     trying_on e =
-        let w = witnessed-none (witness_of (trace table) a y) (sym e ∙ s.says) in
+        let w = witnessed-none (witness_of (events table) a y) (sym e ∙ s.says) in
         let l : list' ≡ list = rw w at s.wrote in record {
           given = p.given;
           same = same (l ∙ p.same.is);
@@ -161,48 +162,48 @@ module _ {table : List ℕ} {a b : ℕ} {list₀ list : List ℕ} {y : ℕ} (p :
           tried = λ z l m. go z l w (dec_lt z y) m;
         }
       where
-        go : (z : ℕ) → b < z → witness_of (trace table) a y ≡ none → Dec (z < y) → z < y + 1 → witness_of (trace table) a z ≡ none
+        go : (z : ℕ) → b < z → witness_of (events table) a y ≡ none → Dec (z < y) → z < y + 1 → witness_of (events table) a z ≡ none
         go z l w (yes q) m = p.tried z l q
         go z l w (no q) m = let d : z ≡ y = omega arith in rw d w
 
 -- ---- the lower events, one after the other
 
 -- the races after (a, b) are those after (x, y)
-pub record Walking (table : List ℕ) (a b : ℕ) (list₀ list : List ℕ) (x y : ℕ) : Type 0 where
+pub record Walking (table : Table) (a b : ℕ) (list₀ list : List ℕ) (x y : ℕ) : Type 0 where
   pub given : WitnessRoom table list₀
   pub same : Same list₀ list
-  pub after : next_race (trace table) a b ≡ next_race (trace table) x y
+  pub after : next_race (events table) a b ≡ next_race (events table) x y
 
-pub walking_start : (table : List ℕ) (a b : ℕ) {list : List ℕ} → WitnessRoom table list → Walking table a b list list a b
+pub walking_start : (table : Table) (a b : ℕ) {list : List ℕ} → WitnessRoom table list → Walking table a b list list a b
 walking_start table a b r = record { given = r; same = same refl; after = refl }
 
 none_with : (t : Trace) (a b : ℕ) (o : Option Race) → o ≡ none → FirstWith t a b o → (y : ℕ) → NoRaces t a b y
 none_with t a b o e (with_none f) = f
 none_with t a b o e (with_race y ρ l w f) = let z : ◌≡◌ {A = ℕ} 0 1 = cc in absurd (omega arith)
 
-module _ {table : List ℕ} {a b : ℕ} {list₀ list : List ℕ} {x y : ℕ} (p : Walking table a b list₀ list x y) where
-  module _ (n : ℕ) (en : n ≡ length (trace table)) where
+module _ {table : Table} {a b : ℕ} {list₀ list : List ℕ} {x y : ℕ} (p : Walking table a b list₀ list x y) where
+  module _ (n : ℕ) (en : n ≡ length (events table)) where
     pub lower_fits : x ≤ n → Fits w16 x
-    lower_fits h = let s = p.given.links.good.size in record { fits = omega arith }
+    lower_fits h = let s = table.links.good.size in record { fits = omega arith }
 
     pub next_fits : x ≤ n → Fits w16 (x + 1)
-    next_fits h = let s = p.given.links.good.size in record { fits = omega arith }
+    next_fits h = let s = table.links.good.size in record { fits = omega arith }
 
-    pub no_more : n < x → Hands (next_race (trace table) a b) list₀ list None
+    pub no_more : n < x → Hands (next_race (events table) a b) list₀ list None
     no_more h =
-        let l : length (trace table) < x = omega arith in
-        let e = p.after ∙ next_over (trace table) p.given.links.good.well_formed x y l in
+        let l : length (events table) < x = omega arith in
+        let e = p.after ∙ next_over (events table) table.links.good.well_formed x y l in
         rw e (record { says = refl; wrote = p.same.is })
 
   pub walking_lent : WitnessRoom table list
   walking_lent = rw p.same.is p.given
 
-  module _ {list' : List ℕ} (r : RustOption FoundRace) (s : HandsWith (trace table) x y list list' r) where
-    pub race-found : (o : FoundRace) → r ≡ Some o → Hands (next_race (trace table) a b) list₀ list' (Some o)
+  module _ {list' : List ℕ} (r : RustOption FoundRace) (s : HandsWith (events table) x y list list' r) where
+    pub race-found : (o : FoundRace) → r ≡ Some o → Hands (next_race (events table) a b) list₀ list' (Some o)
     race-found o e =
         let z = handed-some s.race o (sym e ∙ s.hands.says) in
-        let f : FirstWith (trace table) x y (some z.0) = rw z.1 at s.first in
-        let g = p.after ∙ next-found (trace table) p.given.links.good.well_formed x y z.0 f ∙ sym z.1 in
+        let f : FirstWith (events table) x y (some z.0) = rw z.1 at s.first in
+        let g = p.after ∙ next-found (events table) table.links.good.well_formed x y z.0 f ∙ sym z.1 in
         rw g (record { says = sym e ∙ s.hands.says; wrote = rw (← p.same.is) s.hands.wrote })
 
     pub walking_on : r ≡ None → Walking table a b list₀ list' (x + 1) (x + 1)
@@ -211,5 +212,5 @@ module _ {table : List ℕ} {a b : ℕ} {list₀ list : List ℕ} {x y : ℕ} (p
         let l : list' ≡ list = rw z at s.hands.wrote in record {
           given = p.given;
           same = same (l ∙ p.same.is);
-          after = rw (add-one x) (p.after ∙ next_lower (trace table) p.given.links.good.well_formed x y (none_with (trace table) x y s.race z s.first));
+          after = rw (add-one x) (p.after ∙ next_lower (events table) table.links.good.well_formed x y (none_with (events table) x y s.race z s.first));
         }

@@ -24,7 +24,8 @@ use Rattle.decision.specs.Stairs.{climb, least_merge}
 use Rattle.decision.specs.Decision.{witness, is_conflicting, shown_for}
 use Rattle.decision.proofs.ConeExact.{cone_exactly, cone_increasing}
 use Rattle.decision.proofs.ListingExact.{conflicting_exactly}
-use Rattle.table.specs.Table.{trace}
+use Rattle.table.specs.declared.judged.Table.{Table}
+use Rattle.table.specs.Judged.{events}
 use Rattle.cone.specs.Tops.{Rooted, Told}
 use Rattle.cone.specs.Split.{Splits, Moved, Others}
 use Rattle.cone.proofs.ConeLaws.{under-cone, moved-cone, others_cone, told_tops, roots_out, root_in, both_few, rest_whole}
@@ -34,54 +35,54 @@ use Rattle.stairs.proofs.ClimbLaws.{climb-length}
 use Rattle.bounds.specs.Parts.{Parts}
 use Rattle.bounds.specs.Bounds.{Given, Ended, Needed, Bound, Covers}
 use Rattle.bounds.proofs.StairLaws.{parts_lists, merge_is}
-use Rattle.races.specs.Witness.{WitnessRoom, Shows}
+use Rattle.races.specs.Witness.{Shows}
 use Rattle.races.specs.Engine.{if_correct, shown_of, Coned, Joinable, Mergeable}
 
 -- ---- `merge`
 
-module _ {s : List ℕ} {m : ℕ} {tops P Q out : List ℕ} (g : Mergeable s m tops P Q out) where
+module _ {s : Table} {m : ℕ} {tops P Q out : List ℕ} (g : Mergeable s m tops P Q out) where
   pub merge-given : (by : List ℕ) → length by ≡ max_events + 1 → Given s m P Q by
-  merge-given by l = let z = g.joinable.links.good.size in record { links = g.joinable.links; parts = g.joinable.parts; room = omega arith }
+  merge-given by l = let z = s.links.good.size in record { parts = g.joinable.parts; room = omega arith }
 
   pub merge_climbing : (need : List ℕ) → length need ≡ max_events + 1 → Climbing P Q need out
   merge_climbing need l =
-      let z = g.joinable.links.good.size in
+      let z = s.links.good.size in
       let f = g.joinable.few in
       let o = g.room in
       record { stairs = λ k i. let b = (g.joinable.parts.others k i).bounded in omega arith; room = omega arith }
 
-module _ {s : List ℕ} {m : ℕ} {P Q ends low : List ℕ} (e : Ended s m P Q ends) (n : Needed s m P Q (Bound (trace s) P Q) low) where
+module _ {s : Table} {m : ℕ} {P Q ends low : List ℕ} (e : Ended s m P Q ends) (n : Needed s m P Q (Bound (events s) P Q) low) where
   pub merge_ready : Ready s m P Q ends low
-  merge_ready = record { links = e.given.links; lists = parts_lists s e.given.links e.given.parts; ends_room = e.given.room; need_room = n.given.room }
+  merge_ready = record { lists = parts_lists s e.given.parts; ends_room = e.given.room; need_room = n.given.room }
 
-  module _ {need : List ℕ} (x : Solved (trace s) m P Q ends low need) where
-    merged : climb (at need) P Q ≡ least_merge (trace s) P Q
-    merged = merge_is s e.given.links e.given.parts e.are n.are x.least
+  module _ {need : List ℕ} (x : Solved (events s) m P Q ends low need) where
+    merged : climb (at need) P Q ≡ least_merge (events s) P Q
+    merged = merge_is s e.given.parts e.are n.are x.least
 
-    pub merge_done : (out : List ℕ) {out' : List ℕ} → out' ≡ in_front (climb (at need) P Q) out → out' ≡ in_front (least_merge (trace s) P Q) out
+    pub merge_done : (out : List ℕ) {out' : List ℕ} → out' ≡ in_front (climb (at need) P Q) out → out' ≡ in_front (least_merge (events s) P Q) out
     merge_done out q = q ∙ ap (λ (l : List ℕ). in_front l out) merged
 
 -- ---- `join`
 
-module _ {s : List ℕ} {m : ℕ} {tops P Q : List ℕ} (g : Joinable s m tops P Q) (out : List ℕ) where
+module _ {s : Table} {m : ℕ} {tops P Q : List ℕ} (g : Joinable s m tops P Q) (out : List ℕ) where
   pub join_mergeable : length out ≡ max_events → Mergeable s m tops P Q out
-  join_mergeable l = let z = g.links.good.size in record { joinable = g; room = omega arith }
+  join_mergeable l = let z = s.links.good.size in record { joinable = g; room = omega arith }
 
-  merge-length : length (least_merge (trace s) P Q) ≡ length P + length Q
+  merge-length : length (least_merge (events s) P Q) ≡ length P + length Q
   unfolding least_merge
   merge-length = climb-length _ P Q
 
-  module _ {out' : List ℕ} (e : out' ≡ in_front (least_merge (trace s) P Q) out) where
-    front_is : take (length P + length Q) out' ≡ least_merge (trace s) P Q
-    front_is = rw (e, ← merge-length) (front_taken (least_merge (trace s) P Q) out)
+  module _ {out' : List ℕ} (e : out' ≡ in_front (least_merge (events s) P Q) out) where
+    front_is : take (length P + length Q) out' ≡ least_merge (events s) P Q
+    front_is = rw (e, ← merge-length) (front_taken (least_merge (events s) P Q) out)
 
     pub join_front : length P + length Q ≡ length (take (length P + length Q) out')
     join_front = sym (ap length front_is ∙ merge-length)
 
-    pub join_few : length (take (length P + length Q) out') ≤ length (trace s)
+    pub join_few : length (take (length P + length Q) out') ≤ length (events s)
     join_few = let a = join_front in let f = g.few in omega arith
 
-    pub join-shown : {list list' : List ℕ} {r : RustOption ℕ} → Shows (if_correct (trace s) (take (length P + length Q) out')) list list' r → Shows (if_correct (trace s) (least_merge (trace s) P Q)) list list' r
+    pub join-shown : {list list' : List ℕ} {r : RustOption ℕ} → Shows (if_correct (events s) (take (length P + length Q) out')) list list' r → Shows (if_correct (events s) (least_merge (events s) P Q)) list list' r
     join-shown x = rw front_is at x
 
 -- ---- `split`
@@ -141,55 +142,52 @@ module _ (t : Trace) {tops : List ℕ} (c : Coned t tops) where
     );
   }
 
-module _ {s list : List ℕ} (q : WitnessRoom s list) {tops : List ℕ} (c : Coned (trace s) tops) {m : ℕ} (b : m ≤ max_thread) where
-  pub split_room : (out : List ℕ) → length out ≡ max_events → Splits s tops m out
-  split_room out l = let z = q.links.good.size in record { links = q.links; topped = c.are.topped; thread = b; room = omega arith }
+module _ {s : Table} {tops : List ℕ} (c : Coned (events s) tops) {m : ℕ} where
+  pub split_room : m ≤ max_thread → (out : List ℕ) → length out ≡ max_events → Splits s tops m out
+  split_room b out l = let z = s.links.good.size in record { topped = c.are.topped; thread = b; room = omega arith }
 
-  module _ {i n : ℕ} {moved others : List ℕ} (x : Moved (trace s) m tops i moved) (y : Others (trace s) m tops n others) where
-    pub split_others : length others ≡ max_events → n ≡ length (take n others)
-    split_others l = let z = q.links.good.size in let u = y.few in sym (length-take-le n others (omega arith))
+  pub split_joinable : {i n : ℕ} {moved others : List ℕ} → Moved (events s) m tops i moved → Others (events s) m tops n others → length moved ≡ max_events → Joinable s m tops (take (max_events - i) (drop i moved)) (take n others)
+  split_joinable {i} {n} {moved} x y l =
+      let a = moved-cone c.apart c.are x in
+      let o = others_cone c.apart c.are y in
+      rw (rest_whole moved max_events i l) (record { parts = rw (a, o) (cone-parts (events s) c m); covers = rw o (cone_covers (events s) c m); few = both_few x y })
 
-    pub split_joinable : length moved ≡ max_events → Joinable s m tops (take (max_events - i) (drop i moved)) (take n others)
-    split_joinable l =
-        let a = moved-cone c.apart c.are x in
-        let o = others_cone c.apart c.are y in
-        rw (rest_whole moved max_events i l) (record { links = q.links; parts = rw (a, o) (cone-parts (trace s) c m); covers = rw o (cone_covers (trace s) c m); few = both_few x y })
+pub split_others : (s : Table) {tops : List ℕ} {m n : ℕ} {others : List ℕ} → Others (events s) m tops n others → length others ≡ max_events → n ≡ length (take n others)
+split_others s {n = n} {others = others} y l = let z = s.links.good.size in let u = y.few in sym (length-take-le n others (omega arith))
 
-    pub split_shown : length moved ≡ max_events → {list' : List ℕ} {r : RustOption ℕ} → Shows (if_correct (trace s) (least_merge (trace s) (take (max_events - i) (drop i moved)) (take n others))) list list' r → Shows (shown_of (trace s) m tops) list list' r
-    unfolding shown_of
-    split_shown l z = rw (rest_whole moved max_events i l, x.is, y.is) at z
+pub split_shown : {t : Trace} {tops : List ℕ} {m i n : ℕ} {moved others : List ℕ} → Moved t m tops i moved → Others t m tops n others → length moved ≡ max_events → {list list' : List ℕ} {r : RustOption ℕ}
+    → Shows (if_correct t (least_merge t (take (max_events - i) (drop i moved)) (take n others))) list list' r → Shows (shown_of t m tops) list list' r
+unfolding shown_of
+split_shown {i = i} {moved = moved} x y l z = rw (rest_whole moved max_events i l, x.is, y.is) at z
 
 -- ---- the pair
 
-module _ {table list : List ℕ} (q : WitnessRoom table list) (a b : ℕ) (conflicting : is_conflicting (trace table) a b ≡ true) where
-  apart : Apart (trace table) (pair a b)
-  apart = conflicting_apart (trace table) a b ((conflicting_exactly (trace table) a b).0 conflicting)
+module _ {t : Trace} (a b : ℕ) (conflicting : is_conflicting t a b ≡ true) where
+  apart : Apart t (pair a b)
+  apart = conflicting_apart t a b ((conflicting_exactly t a b).0 conflicting)
 
-  pub valid_a : Valid (trace table) a
-  valid_a = ((conflicting_exactly (trace table) a b).0 conflicting).first
+  pub valid_a : Valid t a
+  valid_a = ((conflicting_exactly t a b).0 conflicting).first
 
-  accesses : Access (trace table) a × Access (trace table) b
-  accesses = ((conflicting_exactly (trace table) a b).0 conflicting).accesses
-
-  no_join : (k : ℕ) → Access (trace table) k → kind_of (trace table) k ≢ join
-  no_join k x e = ⊎_elim (λ r. let n : ⊥ = omega arith in n) (λ w. let n : ⊥ = omega arith in n) x
-
-  pub rooted : Rooted table (pair a b)
-  rooted = record { links = q.links; apart = apart; no_join = for_pair (λ r. kind_of (trace table) r ≢ join) (no_join a accesses.0) (no_join b accesses.1) }
-
-  module _ {tops : List ℕ} (x : Bool) (c : Told (trace table) (pair a b) tops x) where
-    pub root_found : not x ≡ true → Shows (witness (trace table) a b) list list None
+  module _ {tops : List ℕ} (x : Bool) (c : Told t (pair a b) tops x) where
+    pub root_found : not x ≡ true → {list : List ℕ} → Shows (witness t a b) list list None
     unfolding shown_for
     root_found w = rw (root_in apart c (not-true x w)) (record { says = refl; wrote = refl })
 
     module _ (w : not x ≡ false) where
-      pub pair_coned : Coned (trace table) tops
+      pub pair_coned : Coned t tops
       pair_coned = record { roots = pair a b; apart = apart; are = told_tops c (not-false x w) }
 
-      module _ (m : ℕ) (em : m ≡ thread_of (trace table) a) where
-        pub pair_thread : m ≤ max_thread
-        pair_thread = rw em (q.links.good.thread_limit a valid_a)
+      pub pair-shown : (m : ℕ) → m ≡ thread_of t a → {list list' : List ℕ} {r : RustOption ℕ} → Shows (shown_of t m tops) list list' r → Shows (witness t a b) list list' r
+      unfolding shown_of if_correct shown_for
+      pair-shown m em s = rw (roots_out apart c (not-false x w), ← em, ← under-cone apart (told_tops c (not-false x w))) s
 
-        pub pair-shown : {list' : List ℕ} {r : RustOption ℕ} → Shows (shown_of (trace table) m tops) list list' r → Shows (witness (trace table) a b) list list' r
-        unfolding shown_of if_correct shown_for
-        pair-shown s = rw (roots_out apart c (not-false x w), ← em, ← under-cone apart (told_tops c (not-false x w))) s
+-- no access is a join
+no_join : (t : Trace) (k : ℕ) → Access t k → kind_of t k ≢ join
+no_join t k x e = ⊎_elim (λ r. let n : ⊥ = omega arith in n) (λ w. let n : ⊥ = omega arith in n) x
+
+pub rooted : {table : Table} (a b : ℕ) → is_conflicting (events table) a b ≡ true → Rooted table (pair a b)
+rooted {table} a b conflicting =
+    let t = events table in
+    let accesses = ((conflicting_exactly t a b).0 conflicting).accesses in
+    record { apart = apart a b conflicting; no_join = for_pair (λ r. kind_of t r ≢ join) (no_join t a accesses.0) (no_join t b accesses.1) }

@@ -6,7 +6,8 @@ use Rattle.model.specs.Lists.{own, only, all_but}
 use Rattle.model.specs.Race.{Apart}
 use Rattle.decision.specs.Check.{is_correct}
 use Rattle.decision.specs.Stairs.{least_merge}
-use Rattle.table.specs.Table.{trace, Linked}
+use Rattle.table.specs.declared.judged.Table.{Table}
+use Rattle.table.specs.Judged.{events}
 use Rattle.cone.specs.Tops.{Tops}
 use Rattle.cone.specs.Split.{under}
 use Rattle.bounds.specs.Parts.{Parts}
@@ -27,13 +28,12 @@ pub record Coned (t : Trace) (tops : List ℕ) : Type 0 where
   pub are : Tops t roots tops
 
 -- the two lists of the events up to the tops
-pub record Joinable (s : List ℕ) (m : ℕ) (tops P Q : List ℕ) : Type 0 where
-  pub links : Linked s
-  pub parts : Parts (trace s) m P Q
-  pub covers : Covers (trace s) m Q tops
-  pub few : length P + length Q ≤ length (trace s)
+pub record Joinable (s : Table) (m : ℕ) (tops P Q : List ℕ) : Type 0 where
+  pub parts : Parts (events s) m P Q
+  pub covers : Covers (events s) m Q tops
+  pub few : length P + length Q ≤ length (events s)
 
 -- and room for their merge
-pub record Mergeable (s : List ℕ) (m : ℕ) (tops P Q out : List ℕ) : Type 0 where
+pub record Mergeable (s : Table) (m : ℕ) (tops P Q out : List ℕ) : Type 0 where
   pub joinable : Joinable s m tops P Q
-  pub room : length (trace s) ≤ length out
+  pub room : length (events s) ≤ length out

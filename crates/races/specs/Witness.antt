@@ -2,7 +2,8 @@
 use Rattle.std.specs.Prelude.{ℕ, ◌≤◌, ◌≡◌, Option as RustOption, None, Some, List, length}
 use Rattle.std.proofs.Math.Option.{Option, none, some}
 use Rattle.model.specs.Lists.{in_front}
-use Rattle.table.specs.Table.{trace, Linked}
+use Rattle.table.specs.declared.judged.Table.{Table}
+use Rattle.table.specs.Judged.{events}
 
 -- the answer by the witness, if there is one: its length
 abbrev pub witnessed : Option (List ℕ) → RustOption ℕ
@@ -14,10 +15,9 @@ abbrev pub list_with : Option (List ℕ) → List ℕ → List ℕ
 list_with none list = list
 list_with (some ρ) list = in_front ρ list
 
--- a table with its links, and what is lent for its witnesses: a list with room for any
-pub record WitnessRoom (table list : List ℕ) : Type 0 where
-  pub links : Linked table
-  pub room : length (trace table) ≤ length list
+-- a judged recording's table, and what is lent for its witnesses: a list with room for any
+pub record WitnessRoom (table : Table) (list : List ℕ) : Type 0 where
+  pub room : length (events table) ≤ length list
 
 -- the answer by the witness o, if there is one: its length, and the lent list with the witness in its front
 pub record Shows (o : Option (List ℕ)) (list list' : List ℕ) (r : RustOption ℕ) : Type 0 where

@@ -25,7 +25,7 @@ pub struct Race {
 
 // The merge of p, the moved thread's events, and q, the others', by their least staircase: in the front of a list.
 fn merge(table: &Table, m: u8, tops: &[u16; Thread::COUNT], p: &[u16], q: &[u16], out: &mut [u16])
-    requires { Mergeable table.now.words.now m tops.now p.now q.now out.old }
+    requires { Mergeable table.now m tops.now p.now q.now out.old }
     ensures { out.new ≡ in_front (least_merge (events table.now) p.now q.now) out.old }
 {
     let mut ends = [0u16; Recording::PLACES];
@@ -38,7 +38,7 @@ fn merge(table: &Table, m: u8, tops: &[u16; Thread::COUNT], p: &[u16], q: &[u16]
 // The merge is the witness where it is a correct reordering: the least staircase has what must stand before, and this asks for what must not.
 #[tactic(auto, unfolding(crate::specs::Engine::if_correct, model::specs::Lists::in_front))]
 fn show(table: &Table, merged: &[u16], list: &mut [u16]) -> Option<u16>
-    requires { WitnessRoom table.now.words.now list.old × (length merged.now ≤ length (events table.now)) }
+    requires { WitnessRoom table.now list.old × (length merged.now ≤ length (events table.now)) }
     ensures { Shows (if_correct (events table.now) merged.now) list.old list.new result }
 {
     if !checking::is_correct(table, merged) {
@@ -57,7 +57,7 @@ fn join(
     q: &[u16],
     list: &mut [u16],
 ) -> Option<u16>
-    requires { WitnessRoom table.now.words.now list.old × Joinable table.now.words.now m tops.now p.now q.now }
+    requires { WitnessRoom table.now list.old × Joinable table.now m tops.now p.now q.now }
     ensures { Shows (if_correct (events table.now) (least_merge (events table.now) p.now q.now)) list.old list.new result }
 {
     let mut merged = [0u16; Recording::MAX_EVENTS];
@@ -68,7 +68,7 @@ fn join(
 
 // The witness by the cone, which reaches up to the tops, with thread m as the moved thread.
 fn split(table: &Table, m: u8, tops: &[u16; Thread::COUNT], list: &mut [u16]) -> Option<u16>
-    requires { WitnessRoom table.now.words.now list.old × (Coned (events table.now) tops.now × (m ≤ max_thread)) }
+    requires { WitnessRoom table.now list.old × (Coned (events table.now) tops.now × (m ≤ max_thread)) }
     ensures { Shows (shown_of (events table.now) m tops.now) list.old list.new result }
 {
     let mut moved = [0u16; Recording::MAX_EVENTS];
@@ -80,7 +80,7 @@ fn split(table: &Table, m: u8, tops: &[u16; Thread::COUNT], list: &mut [u16]) ->
 
 // The witness of a conflicting pair, in the front of the lent list. No pair is reported with a or b in its cone.
 pub fn witness(table: &Table, a: u16, b: u16, list: &mut [u16]) -> Option<u16>
-    requires { WitnessRoom table.now.words.now list.old × (is_conflicting (events table.now) a b ≡ true) }
+    requires { WitnessRoom table.now list.old × (is_conflicting (events table.now) a b ≡ true) }
     ensures { Shows (witness (events table.now) a b) list.old list.new result }
 {
     let roots = [a, b];
@@ -95,7 +95,7 @@ pub fn witness(table: &Table, a: u16, b: u16, list: &mut [u16]) -> Option<u16>
 // The witness of two numbers, where they are a conflicting pair.
 #[tactic(auto, unfolding(crate::specs::Next::witness_of))]
 fn race_on(table: &Table, a: u16, b: u16, list: &mut [u16]) -> Option<u16>
-    requires { WitnessRoom table.now.words.now list.old }
+    requires { WitnessRoom table.now list.old }
     ensures { Shows (witness_of (events table.now) a b) list.old list.new result }
 {
     if !table.conflicting(a, b) {
@@ -106,7 +106,7 @@ fn race_on(table: &Table, a: u16, b: u16, list: &mut [u16]) -> Option<u16>
 
 // The first race with a as its lower event and a higher one above b.
 fn next_with(table: &Table, a: u16, b: u16, list: &mut [u16]) -> Option<Race>
-    requires { WitnessRoom table.now.words.now list.old }
+    requires { WitnessRoom table.now list.old }
     ensures { HandsWith (events table.now) a b list.old list.new result }
 {
     for y in b as usize + 1..=table.count() {
@@ -124,7 +124,7 @@ fn next_with(table: &Table, a: u16, b: u16, list: &mut [u16]) -> Option<Race>
 
 // The first race after (a, b): by lower event, then by higher.
 pub fn next_race(table: &Table, a: u16, b: u16, list: &mut [u16]) -> Option<Race>
-    requires { WitnessRoom table.now.words.now list.old }
+    requires { WitnessRoom table.now list.old }
     ensures { Hands (next_race (events table.now) a b) list.old list.new result }
 {
     let mut after = b;

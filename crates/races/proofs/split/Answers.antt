@@ -9,7 +9,7 @@ pub others-n-requires : goal.others-n-requires
 others-n-requires c = search (split_room, rules)
 
 pub slice_bounds-join-end-2 : goal.slice_bounds-join-end-2
-slice_bounds-join-end-2 c = search (split_others, rules)
+slice_bounds-join-end-2 c = search (split_others c.args.table.now, rules)
 
 pub join-requires : goal.join-requires
 join-requires c = search (split_joinable, rules)
