@@ -36,11 +36,11 @@ module _ (t : Trace) where
       let test : ℕ → Bool = λ j. ltb k j && last_on t x j in
       ap (nearest test) (numbers_split t d k e) ∙ nearest_skip test k (after k d) (λ j l. rw (le-ltb k j l)) ∙ past_all (last_on t x) k d k (omega arith)
 
-  pub end_none : (n : ℕ) → n ≡ length t → (x : ℕ) → next_end t n x ≡ 0
+  end_none : (n : ℕ) → n ≡ length t → (x : ℕ) → next_end t n x ≡ 0
   end_none n e x = end_after n 0 x (omega arith)
 
   -- event k is the next one if it is one
-  pub end_step : (k : ℕ) → Valid t k → (x : ℕ) → next_end t (k - 1) x ≡ cond (last_on t x k) k (next_end t k x)
+  end_step : (k : ℕ) → Valid t k → (x : ℕ) → next_end t (k - 1) x ≡ cond (last_on t x k) k (next_end t k x)
   end_step zero v x = absurd (let p = v.positive in omega arith)
   end_step (suc k) v x =
       let b = v.bounded in

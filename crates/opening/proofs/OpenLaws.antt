@@ -1,13 +1,11 @@
 -- The ways through the code, and what an opened file gives.
 use Prim.Native.Nat.{ℕ, ◌≤◌}
 use Rattle.std.specs.Prelude.{Result, Ok, Err}
-use mathlib.Core.Path.{◌≡◌, refl, sym}
+use mathlib.Core.Path.{◌≡◌, refl}
 use mathlib.Core.Option.{Option, none, some}
 use mathlib.Core.List.{List}
 use lib.ListN.{length, take}
-use lib.Seq.{length-take-le}
 use Rattle.model.specs.Trace.{Trace}
-use Rattle.model.specs.Good.{Good}
 use Rattle.limits.specs.declared.Refusal.{Refusal}
 use Rattle.limits.specs.declared.Recording.{Recording}
 use Rattle.format.specs.Bytes.{trace_in}
@@ -52,14 +50,8 @@ module _ {f : Option Refusal} {t : Trace} {area area' : List ℕ} where
     pub opened_within : n ≤ length area'
     opened_within = opened_built.within
 
-    pub opened_long : n ≡ length (take n area')
-    opened_long = sym (length-take-le n area' opened_within)
-
     pub opened_linked : Linked (take n area')
     opened_linked = opened_built.filled.linked
-
-    pub opened_good : Good (trace (take n area'))
-    opened_good = opened_linked.good
 
     pub opened_trace : trace (take n area') ≡ t
     opened_trace = opened_built.filled.same
