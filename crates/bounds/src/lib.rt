@@ -88,7 +88,7 @@ fn note_reads(
     p.len()
 }
 
-// w, where it is an event of thread m; 0 otherwise.
+// w, where it is an event of thread m; 0 otherwise: it becomes an entry of the table of needs, where 0 is none.
 #[tactic(auto, unfolding(crate::specs::Steps::own_event))]
 fn own_event(table: &Table, m: u8, w: usize) -> u16
     requires { (w ≤ length (events table.now)) × (w < 65536) }

@@ -194,7 +194,7 @@ fn bad_line(text: &[u8], notes: usize, events: usize, at: usize) -> BadLine
     }
 }
 
-// Reads a text: the preamble and the events stand in the front of what is lent then.
+// Reads a text: the preamble and the events stand in the front of what is lent then, the events in the three lists that the writer takes.
 pub fn read_text(
     text: &[u8],
     preamble: &mut [u8],

@@ -200,6 +200,7 @@ impl Search<'_> {
     {
         let mut done = [0u16; Thread::COUNT];
         self.seed(roots, &mut done, tops)?;
+        // A `while`: how many rounds there are is known only behind the last.
         while behind(&done, tops) {
             self.round(&mut done, tops)?;
         }
@@ -215,6 +216,7 @@ fn behind(done: &[u16; Thread::COUNT], tops: &[u16; Thread::COUNT]) -> bool
 }
 
 // Is no root in the causal cone of the roots? Then the tops are how far it reaches into each thread; they are lent as 0.
+// (A bool with the tops beside it: arrays are lent here, and not copied.)
 #[tactic(auto, using(crate::proofs::OutsideLaws::told))]
 pub fn outside(table: &Table, roots: &[u16], tops: &mut [u16; Thread::COUNT]) -> bool
     requires { Rooted table.now roots.now × (tops.old ≡ replicate (max_thread + 1) 0) }

@@ -13,6 +13,7 @@ pub fn read<R: Read>(from: &mut R, buffer: &mut [u8]) -> io::Result<usize>
     ensures bytes { Gives result (R.remaining from.old) (R.remaining from.new) buffer.new }
 {
     let mut n = 0;
+    // A `while`: how much each turn reads is the reader's to say.
     while n < buffer.len() {
         match from.read(&mut buffer[n..])? {
             0 => return Ok(n),

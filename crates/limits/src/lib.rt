@@ -82,7 +82,7 @@ impl Event {
     }
 }
 
-// The locks: who holds each (0 for nobody, c + 1 for thread c), and how deep. A depth goes up to the number of events, past a u8.
+// The locks: who holds each (0 for nobody, c + 1 for thread c, as the definition `holder` has it), and how deep. A depth goes up to the number of events, past a u8.
 #[derive(Drop)]
 pub struct Locks {
     pub holder: [u8; Event::OBJECTS],

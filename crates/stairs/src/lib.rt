@@ -145,6 +145,7 @@ pub fn solve(table: &Table, m: u8, p: &[u16], q: &[u16], ends: &[u16], need: &mu
     requires { Ready table.now m p.now q.now ends.now need.old }
     ensures { Solved (events table.now) m p.now q.now ends.now need.old need.new }
 {
+    // A `while`: how many passes there are is known only behind the last.
     while pass(table, m, p, q, ends, need) {}
 }
 

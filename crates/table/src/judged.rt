@@ -3,7 +3,8 @@
 ghost use Rattle.table.specs.Table.{Linked};
 ghost use Rattle.table.specs.Facts.{Linked_prop};
 
-// The words of a table that has the links of all its events, and so those of a good recording.
+// The words of a table that has the links of all its events, and so those of a good recording. A link is 0 where there is none: the definitions `previous`,
+// `waits_for`, `release_of`, `began` and `fork_of` say so, and a word of the table has room for no more.
 #[derive(Clone, Copy)]
 pub struct Table<'a> {
     pub words: &'a [u16],
@@ -137,7 +138,7 @@ impl Table<'_> {
         0 < lower && lower < higher && higher <= self.count() && self.conflicting_in(lower, higher)
     }
 
-    // How many different threads have an event: the ones of a mask.
+    // How many different threads have an event: the ones of a mask. (From the last event back, as the definition of a trace's threads goes.)
     #[tactic(auto, using(crate::proofs::ThreadLaws::seen_start, crate::proofs::ThreadLaws::seen_valid, crate::proofs::ThreadLaws::seen_small, crate::proofs::ThreadLaws::seen_more, crate::proofs::ThreadLaws::seen_end))]
     pub fn threads(&self) -> u32
         ensures { result ≡ length (threads (events self.now)) }

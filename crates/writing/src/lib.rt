@@ -33,7 +33,7 @@ fn put_event(out: &mut [u8], at: usize, thread: u8, kind: u8, object: u16) -> us
     put16(out, third, object)
 }
 
-// Event k is what the three lists have at place k - 1.
+// Event k is what the three lists have at place k - 1. They stand side by side as the C interface lends them.
 fn put_events(out: &mut [u8], at: usize, threads: &[u8], kinds: &[u8], objects: &[u16]) -> usize
     requires even { Even threads.now kinds.now objects.now }
     requires threads_in_bounds { at + event_bytes * length threads.now ≤ length out.old }
