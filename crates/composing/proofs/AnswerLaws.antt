@@ -51,9 +51,6 @@ module _ {text pre pre' th th' ki ki' ob ob' : List ℕ} where
   good-parts (bad_line x i u v) w e = let o : ◌≡◌ {A = ℕ} 0 1 = cc in absurd (omega arith)
 
   module _ (r : Result Parts BadLine) (x : ReadsText text pre pre' th th' ki ki' ob ob' r) (v : Parts) (e : r ≡ Ok v) where
-    pub preamble_within : v.preamble ≤ length pre'
-    preamble_within = (good-parts x v e).0
-
     pub threads_within : v.events ≤ length th'
     threads_within = (good-parts x v e).1
 

@@ -2,7 +2,7 @@
 use Prim.Native.Nat.{ℕ, suc, ◌+◌, ◌-◌, ◌≤◌, ◌<◌}
 use native.Mathlib.Omega.{arith}
 use mathlib.Core.Path.{◌≡◌, refl, sym, ◌∙◌, ap}
-use mathlib.Core.Logic.{inl, inr, ⊎_elim}
+use mathlib.Core.Logic.{inr, ⊎_elim}
 use mathlib.Core.Bool.{true, false}
 use mathlib.Core.List.{List, [], ◌∷◌, ◌++◌, append_assoc, append-nil}
 use lib.ListN.{length, get_or, take, drop, take-append-drop, get_or-eq_default}
@@ -13,7 +13,7 @@ use Rattle.model.proofs.Tests.{by_cases}
 use Rattle.std.specs.Prelude.{Some, None}
 use Rattle.wording.specs.Lines.{is_comment}
 use Rattle.composing.specs.Texts.{lines, said, line_from, line_of}
-use Rattle.composing.specs.Parts.{LineEnd, NextLine, Says, comment_at, Stands, Skips, NextSaid}
+use Rattle.composing.specs.Parts.{LineEnd, NextLine, Says, comment_at, Stands, NextSaid}
 use Rattle.composing.proofs.LinesLaws.{lines_none, comment_line}
 
 pub said-append : (x y : List (List ℕ)) → said (x ++ y) ≡ said x ++ said y
@@ -84,15 +84,9 @@ module _ (text : List ℕ) (end : ℕ) where
         stands = record { within = omega arith; plain = at_end text end (omega arith) };
       }
 
-  pub said_behind : (next : ℕ) → Skips text (end + 1) next → NextSaid text end next
-  said_behind next s = let l = s.low in record { nothing = s.nothing; low = omega arith; on = inl (omega arith); stands = s.stands }
-
 module _ {text : List ℕ} {at end next : ℕ} (h : at < length text) (l : LineEnd text at end) (n : NextSaid text end next) where
   pub said_on : at < next
   said_on = let a = l.low in let b = n.low in ⊎_elim (λ o. omega arith) (λ o. omega arith) n.on
-
-  pub said_less : length text - next < length text - at
-  said_less = let o = said_on in omega arith
 
 -- ---- the loop that counts lines
 

@@ -3,12 +3,12 @@ use Prim.Native.Nat.{ℕ, suc, ◌+◌, ◌-◌, ◌≤◌, ◌<◌}
 use native.Mathlib.Omega.{arith}
 use mathlib.Core.Path.{◌≡◌, refl, sym, ◌∙◌, ap, subst}
 use mathlib.Core.Logic.{⊎_elim}
-use mathlib.Core.Bool.{Bool, true, false, not}
+use mathlib.Core.Bool.{Bool, false, not}
 use mathlib.Core.List.{List, [], ◌∷◌, ◌++◌, map, map-append, append_assoc, append-nil, Memᴰ}
 use lib.ListN.{length, take, drop, set, length-append, length-drop, length-map}
 use lib.Seq.{take_at, get_or_at, length-take-le}
 use lib.Dec.{eqb}
-use borrow.Author.Tests.{eq-eqb, ne_eqb, not-true, not-false}
+use borrow.Author.Tests.{ne_eqb, not-false}
 use Rattle.model.proofs.Tests.{by_cases}
 use Rattle.model.specs.Trace.{Event, Trace}
 use Rattle.appending.specs.Appended.{Appends}
@@ -26,7 +26,7 @@ use Rattle.wording.specs.declared.Line.TheVariants.{Note, Event as EventOf}
 use Rattle.composing.specs.declared.BadLine.{BadLine}
 use Rattle.composing.specs.declared.Events.{Events}
 use Rattle.wording.proofs.FirstLaws.{from, from-drop}
-use Rattle.wording.proofs.NoteLaws.{says_note, says_none}
+use Rattle.wording.proofs.NoteLaws.{says_note}
 use Rattle.wording.proofs.LineLaws.{event_apart, event_no_note, reads_note, reads_event, reads_bad}
 use Rattle.composing.proofs.LinesLaws.{lines_none, comment_line}
 use Rattle.composing.proofs.SaidLaws.{says_nothing, says_then, says_here, says_line, says_all, said-append, said_on, line_of_next}
@@ -54,9 +54,6 @@ says_more : {A : Type 0} (f : A → List ℕ) (l : List A) (x : A) {text line : 
 says_more f l x s t e = rw map-append (rw e at (says_then s t))
 
 -- ---- the text of a note line, put
-
-pub first_note : (n : ℕ) → n ≡ 0 → (text : List ℕ) {at : ℕ} {out out' : List ℕ} {r : ℕ} → Appends text at out out' r → Appends (note_bytes n text) at out out' r
-first_note n e text a = rw (eq-eqb n 0 e) a
 
 pub next_note : (n : ℕ) → (n ≡ 0 → ⊥) → (text : List ℕ) {at : ℕ} {out mid out' : List ℕ} {p r : ℕ} → Appends (10 ∷ []) at out mid p → Appends text p mid out' r
     → Appends (note_bytes n text) at out out' r
@@ -100,13 +97,6 @@ module _ {text pre₀ pre : List ℕ} {n p at : ℕ} (r : NotesRead text pre₀ 
     line_length : length (take (end - at) (drop at text)) ≡ end - at
     line_length = let d = length-drop at text in let h = l.high in length-take-le (end - at) (drop at text) (omega arith)
 
-    pub notes_stop : not b ≡ true → NotesUpTo text pre₀ pre n p at
-    notes_stop e =
-        record {
-          read = r;
-          stops = λ m more f. let s = l.splits in let q : m ≡ take (end - at) (drop at text) = cc in rw q (says_none x (not-true b e));
-        }
-
     module _ (e : not b ≡ false) where
       is_note : IsNote (take (end - at) (drop at text))
       is_note = says_note x (not-false b e)
@@ -119,15 +109,6 @@ module _ {text pre₀ pre : List ℕ} {n p at : ℕ} (r : NotesRead text pre₀ 
 
       text_length : length is_note.text + 5 ≡ end - at
       text_length = let g = ap length is_note.these in let h = line_length in omega arith
-
-      pub note_room : length text ≤ length pre₀ → p + 1 + length (from 5 (take (end - at) (drop at text))) ≤ length pre
-      note_room h =
-          let s = r.put.same in
-          let t = text_length in
-          let u = r.short in
-          let v = l.low in
-          let w = l.high in
-          rw text_of (omega arith)
 
       pub notes_on : {pre' : List ℕ} {q : ℕ} → Appends (note_bytes n (from 5 (take (end - at) (drop at text)))) p pre pre' q → at < length text → {next : ℕ} → NextSaid text end next
           → NotesRead text pre₀ pre' (n + 1) q next

@@ -7,10 +7,8 @@ use mathlib.Core.List.{List, [], ◌∷◌, ◌++◌, append_assoc, append-nil}
 use lib.ListN.{length, get_or, take}
 use lib.Seq.{take-suc, take_all}
 use borrow.Author.Tests.{eq-eqb, ne_eqb}
-use mir.Syntax.{w8, w16}
+use mir.Syntax.{w8}
 use mir.Val.{Fits}
-use Rattle.model.proofs.Tests.{object_small}
-use Rattle.model.specs.Trace.{thread_of, kind_of, object_of}
 use Rattle.appending.specs.Decimal.{decimal, spaced}
 use Rattle.appending.specs.Appended.{Appends, AppendsShort}
 use Rattle.appending.proofs.DecimalLaws.{decimal_few}
@@ -18,15 +16,12 @@ use Rattle.appending.proofs.AppendLaws.{appends_nothing, appends_then}
 use Rattle.format.specs.Bytes.{trace_in}
 use Rattle.wording.specs.Lines.{note_word, kind_word, event_line}
 use Rattle.showing.specs.Shown.{text_from}
-use Rattle.showing.specs.Pieces.{note_byte, byte_width, note_bytes, notes_text, spaced_kind, event_text, event_text_at, events_text, event_line_bytes, GoodAt, EventsLent}
+use Rattle.showing.specs.Pieces.{note_byte, byte_width, note_bytes, notes_text, spaced_kind, event_text, event_text_at, events_text, event_line_bytes, EventsLent}
 use Rattle.showing.proofs.LineLaws.{bytes_append, no_notes, some_notes, word_few, events-next}
 
 -- ---- a byte of a preamble
 
 module _ (b : ℕ) {at : ℕ} {out mid : List ℕ} {p : ℕ} (a : Appends (b ∷ []) at out mid p) where
-  pub byte_put : (b ≡ 10 → ⊥) → AppendsShort byte_width (note_byte b) at out mid p
-  byte_put ne = record { appends = rw (ne_eqb b 10 ne) a; short = let e = a.ends in omega arith }
-
   pub feed_put : b ≡ 10 → {out' : List ℕ} {r : ℕ} → Appends note_word p mid out' r → AppendsShort byte_width (note_byte b) at out out' r
   feed_put q w = record { appends = rw (eq-eqb b 10 q, ← q) (appends_then a w); short = let e = a.ends in let f = w.ends in omega arith }
 
@@ -51,9 +46,6 @@ module _ {preamble mid : List ℕ} {p : ℕ} where
       record { done = appends_nothing p mid (omega arith); short = omega arith; low = omega arith; room = omega arith }
 
   module _ {out : List ℕ} {end i : ℕ} (w : NotesLaid preamble p mid out end i) where
-    pub byte-room : i < length preamble → end + byte_width ≤ length out
-    byte-room h = let a = w.short in let b = w.room in let c = w.done.same in omega arith
-
     pub notes_on : i < length preamble → {out' : List ℕ} {r : ℕ} → AppendsShort byte_width (note_byte (get_or preamble i 0)) end out out' r → NotesLaid preamble p mid out' r (i + 1)
     unfolding note_bytes
     notes_on h b = record {
@@ -62,9 +54,6 @@ module _ {preamble mid : List ℕ} {p : ℕ} where
       low = omega arith;
       room = w.room;
     }
-
-    pub end_room : length preamble ≤ i → end + 1 ≤ length out
-    end_room h = let a = w.short in let b = w.room in let c = w.done.same in let d = w.low in omega arith
 
     pub notes_put : length preamble ≤ i → (length preamble ≡ 0 → ⊥) → {out₀ : List ℕ} → Appends note_word 0 out₀ mid p → {out' : List ℕ} {r : ℕ} → Appends (10 ∷ []) end out out' r → Appends (notes_text preamble) 0 out₀ out' r
     notes_put h ne a b = rw (some_notes preamble ne) (appends_then a (appends_then (rw (take_all i preamble h) at w.done) b))
@@ -97,14 +86,6 @@ line_put c d x a b v w = record {
   short = let e = a.short in let f = b.short in let g = v.short in let i = w.ends in omega arith;
 }
 
-module _ {ev : List ℕ} {k : ℕ} (g : GoodAt ev k) (x : ℕ) (is : x ≡ object_of (trace_in ev) k) where
-  pub object_fits : Fits w16 x
-  object_fits = let h = object_small (trace_in ev) g.good k g.valid in record { fits = omega arith }
-
-pub event_put : (ev : List ℕ) (k c d x : ℕ) → c ≡ thread_of (trace_in ev) k → d ≡ kind_of (trace_in ev) k → x ≡ object_of (trace_in ev) k → {at : ℕ} {out out' : List ℕ} {r : ℕ}
-    → AppendsShort event_line_bytes (event_text (record { thread = c; kind = d; object = x })) at out out' r → AppendsShort event_line_bytes (event_text_at ev k) at out out' r
-event_put ev k c d x p q r a = rw (p, q, r) at a
-
 -- ---- the event lines
 
 -- those of the events before k are there
@@ -122,12 +103,6 @@ module _ {ev : List ℕ} {at : ℕ} {out₀ : List ℕ} where
 
   module _ {out : List ℕ} {end k : ℕ} (w : EventsLaid ev at out₀ out end k) (n : ℕ) (is : n ≡ length (trace_in ev)) where
     module _ (h : k < n + 1) where
-      pub event_good : GoodAt ev k
-      event_good = record { good = w.lent.good; valid = record { positive = w.low; bounded = omega arith } }
-
-      pub line_room : end + event_line_bytes ≤ length out
-      line_room = let a = w.short in let b = w.lent.room in let c = w.done.same in let d = w.low in omega arith
-
       next_text : events_text (take (k + 1 - 1) (trace_in ev)) ≡ events_text (take (k - 1) (trace_in ev)) ++ event_text_at ev k
       next_text = let z : k + 1 - 1 ≡ k = omega arith in rw z (events-next (trace_in ev) k w.low (omega arith))
 
@@ -139,6 +114,3 @@ module _ {ev : List ℕ} {at : ℕ} {out₀ : List ℕ} where
         high = omega arith;
         lent = w.lent;
       }
-
-    pub events_over : n + 1 ≤ k → Appends (events_text (trace_in ev)) at out₀ out end
-    events_over h = let l = w.low in rw (take_all (k - 1) (trace_in ev) (omega arith)) at w.done

@@ -59,9 +59,6 @@ module _ {s : List ℕ} {t : Recording} {out : List ℕ} (l : TextLent s t out) 
   unfolding preamble
   front_is = ap (λ (n : ℕ). take n s) start_is
 
-  pub notes_room : byte_width * length (take t.start s) + byte_width ≤ length out
-  notes_room = let b = bytes s l.good in let m = l.good.layout.sized.most in let r = l.room in rw front_is (omega arith)
-
   module _ (ev : List ℕ) (part : ev ≡ part_of s) {mid : List ℕ} {p : ℕ} (a : Appends (notes_text (take t.start s)) 0 out mid p) where
     notes_there : Appends (notes_text (preamble s)) 0 out mid p
     notes_there = rw front_is at a

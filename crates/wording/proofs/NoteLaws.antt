@@ -1,42 +1,17 @@
 -- Note lines, and the test of two lists of bytes.
-use Prim.Native.Nat.{ℕ, ◌≤◌}
-use native.Mathlib.Omega.{arith}
+use Prim.Native.Nat.{ℕ}
 use mathlib.Core.Path.{◌≡◌, refl, sym, ◌∙◌, ap}
 use mathlib.Core.Bool.{Bool, true, false, true≢false}
 use mathlib.Core.List.{List, ◌++◌}
-use lib.ListN.{length, take, drop, take-append-drop}
-use lib.Seq.{take_all}
-use lib.Dec.{ltb}
-use borrow.Author.Tests.{ltb-true, ltb-false}
-use Rattle.model.proofs.Tests.{by_cases, both, true_both, clash, false_test}
+use lib.ListN.{take, drop, take-append-drop}
+use Rattle.model.proofs.Tests.{both, true_both, clash, false_test}
 use Rattle.format.specs.Readable.{is_readable}
 use Rattle.format.proofs.ReadableExact.{readable_true, true_readable}
 use Rattle.wording.specs.Lines.{note_word, note_line, IsNote}
 use Rattle.wording.specs.Parts.{SaysNote, is_note, no_note}
-use Rattle.std.specs.Prelude.{bytes_eq}
 use Rattle.std.proofs.lemmas.Slice.Eq.{bytes_eq-Decides}
-use Rattle.std.proofs.lemmas.Bool.Decides.{same_from_decides}
 use Rattle.wording.specs.Reasons.{begins_note, is_note_line}
 use Rattle.wording.proofs.FirstLaws.{from, from-drop}
-
--- ---- the word before the text
-
-module _ (line : List ℕ) where
-  -- the word is there, and the line is long enough
-  begins_five : begins_note line ≡ true → 5 ≤ length line
-  begins_five e =
-      by_cases (ltb (length line) 5)
-      (λ h.
-      let l = ltb-true (length line) 5 h in
-      let g = ap length (sym (take_all 5 line (omega arith)) ∙ (bytes_eq-Decides (take 5 line) note_word).0 e) in
-      omega arith)
-      (λ h. ltb-false (length line) 5 h)
-
-  -- the test compares the other way round
-  pub begins_same : (b : Bool) → b ≡ bytes_eq note_word (take 5 line) → b ≡ begins_note line
-  begins_same b e =
-      let d = bytes_eq-Decides note_word (take 5 line) in
-      same_from_decides b (begins_note line) (λ h. sym (d.0 (sym e ∙ h)), λ q. e ∙ d.1 (sym q)) (bytes_eq-Decides (take 5 line) note_word)
 
 -- ---- a note line
 
@@ -62,9 +37,6 @@ note_is line false e = no_note (λ n. clash (note_true n) (sym e))
 module _ (line : List ℕ) (a : Bool) (is : a ≡ begins_note line) where
   pub note_other : a ≡ false → SaysNote line a
   note_other h = note_is line a (h ∙ sym (rw (← is, h) refl))
-
-  pub note_five : a ≡ true → 5 ≤ length line
-  note_five h = begins_five line (sym is ∙ h)
 
   pub note_read : a ≡ true → (r : Bool) → r ≡ is_readable (from 5 line) → SaysNote line r
   note_read h r e = note_is line r (e ∙ (rw (← is, h, from-drop 5 line)))

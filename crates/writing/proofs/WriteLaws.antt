@@ -6,8 +6,7 @@ use mathlib.Core.Logic.{inl}
 use mathlib.Core.Bool.{Bool, true, false, not}
 use mathlib.Core.Option.{some}
 use mathlib.Core.List.{List}
-use lib.ListN.{length, take, take-append-drop}
-use lib.Seq.{length-take-le}
+use lib.ListN.{length, take-append-drop}
 use lib.Dec.{eqb, leb}
 use borrow.Author.Tests.{eqb-true, eq-eqb, leb-true, lt-ltb, le-ltb, not-true, not-false}
 use Rattle.model.proofs.Tests.{both, true_both, test_false}
@@ -98,11 +97,3 @@ module _ (p threads kinds objects buffer : List ℕ) (b : Bool) (eb : b ≡ is_e
     pub handed_on : {w : Result ℕ Refusal} {buffer' : List ℕ} → (w, buffer') ≡ handed (file_from p threads kinds objects) buffer → (w, buffer') ≡ answer_write p threads kinds objects buffer
     unfolding answer_write handed
     handed_on e = e ∙ rw are_even
-
--- the front of the array is the file
-module _ {file out out' : List ℕ} {r : ℕ} (a : Appends file 0 out out' r) where
-  pub front-count : r ≡ length (take r out')
-  front-count = sym (length-take-le r out' (let w = a.within in let s = a.same in omega arith))
-
-  pub front-handed : (buffer : List ℕ) {w : Result ℕ Refusal × List ℕ} → w ≡ handed (take r out') buffer → w ≡ handed file buffer
-  front-handed buffer e = e ∙ rw a.front
