@@ -14,11 +14,13 @@ use Rattle.model.specs.Listing.{Race}
 use Rattle.decision.specs.Decision.{next_race}
 use Rattle.model.specs.Lists.{in_front}
 use Rattle.model.proofs.Lists.{front_taken}
+use Rattle.table.specs.declared.judged.Table.{Table}
+use Rattle.table.specs.Judged.{events}
 use Rattle.table.specs.Table.{trace}
 use Rattle.limits.specs.declared.Refusal.{Refusal}
 use Rattle.judging.specs.Judged.{events_of, refusal_of}
 use Rattle.opening.specs.Opening.{Opens}
-use Rattle.opening.proofs.OpenLaws.{refused_by, opened_clean, opened_linked, opened_trace}
+use Rattle.opening.proofs.OpenLaws.{refused_by, opened_clean, opened_trace}
 use Rattle.races.specs.Next.{Hands}
 use Rattle.races.specs.declared.Race.{Race as FoundRace}
 use Rattle.std.specs.Prelude.{Option as RustOption, None, Some, Ok, Err}
@@ -37,9 +39,8 @@ use Rattle.report.proofs.RestLaws.{few_countable, fill_stops, fill_goes, fill_la
 -- ---- an opened file
 
 -- a good one's table is ready
-pub good_starting : {f : Option Refusal} {t : Trace} {rows rows' : List ℕ} {n : ℕ} → Opens f t rows rows' (Ok n) → (p : Position) → p.count ≤ max_races → {out : List ℕ} → Room 0 out
-    → Starting (take n rows') p out
-good_starting {rows' = rows'} {n} o p c h = let l = opened_linked o in record { links = l; countable = few_countable (trace (take n rows')) l.good.size p c; room = h }
+pub good_starting : {table : Table} {p : Position} {out : List ℕ} → p.count ≤ max_races → Room 0 out → Starting table p out
+good_starting {table} {p} c h = record { countable = few_countable (events table) table.links.good.size p c; room = h }
 
 -- its lines are what fills the buffer
 pub good_writes : (s : List ℕ) {rows rows' : List ℕ} {n : ℕ} → Opens (refusal_of s) (events_of s) rows rows' (Ok n) → (p : Position) {out out' : List ℕ} (w : Progress)
@@ -55,49 +56,49 @@ refused_writes s {r = r} o p {out = out} a = let l = fill_last (length out) (ref
 
 -- ---- one line
 
-module _ {p : Position} {table list : List ℕ} {at : ℕ} {out : List ℕ} (g : Writing table p list at out) where
+module _ {p : Position} {table : Table} {list : List ℕ} {at : ℕ} {out : List ℕ} (g : Writing table p list at out) where
   -- the first line
-  pub line_first : p.next ≡ 0 → {out' : List ℕ} {r : ℕ} → Appends (first_line (trace table)) at out out' r
-      → Advances (trace table) (lines_from (trace table) p) list list at out out' (record { bytes = r; next = Some (behind_first p) })
+  pub line_first : p.next ≡ 0 → {out' : List ℕ} {r : ℕ} → Appends (first_line (events table)) at out out' r
+      → Advances (events table) (lines_from (events table) p) list list at out out' (record { bytes = r; next = Some (behind_first p) })
   line_first e a = record {
-    line = first_line (trace table);
-    first = from_first (trace table) p e;
+    line = first_line (events table);
+    first = from_first (events table) p e;
     puts = a;
-    countable = first_countable (trace table) p g.countable;
+    countable = first_countable (events table) p g.countable;
     list_long = refl;
   }
 
   -- that of a race, or the last
-  module _ {list' : List ℕ} (x : RustOption FoundRace) (h : Hands (next_race (trace table) p.lower p.higher) list list' x) (long : length list' ≡ length list) where
+  module _ {list' : List ℕ} (x : RustOption FoundRace) (h : Hands (next_race (events table) p.lower p.higher) list list' x) (long : length list' ≡ length list) where
     pub line_ended : x ≡ None → {out' : List ℕ} {r : ℕ} → Appends (races_line p.count) at out out' r
-        → Advances (trace table) (races_from (trace table) p) list list' at out out' (record { bytes = r; next = None })
+        → Advances (events table) (races_from (events table) p) list list' at out out' (record { bytes = r; next = None })
     line_ended e a =
-        let n = handed-none (next_race (trace table) p.lower p.higher) (sym e ∙ h.says) in
+        let n = handed-none (next_race (events table) p.lower p.higher) (sym e ∙ h.says) in
         record {
           line = races_line p.count;
-          first = from_end (trace table) g.lent.links.good.well_formed p n;
+          first = from_end (events table) table.links.good.well_formed p n;
           puts = a;
           countable = tt;
           list_long = long;
         }
 
-    by_race : (y : Race) → next_race (trace table) p.lower p.higher ≡ some y → (k j : ℕ) → k ≡ y.lower → j ≡ y.higher → {out' : List ℕ} {r : ℕ}
+    by_race : (y : Race) → next_race (events table) p.lower p.higher ≡ some y → (k j : ℕ) → k ≡ y.lower → j ≡ y.higher → {out' : List ℕ} {r : ℕ}
         → Appends (race_line k j y.witness) at out out' r
-        → Advances (trace table) (races_from (trace table) p) list list' at out out' (record { bytes = r; next = Some (record { next = 1; lower = k; higher = j; count = p.count + 1 }) })
+        → Advances (events table) (races_from (events table) p) list list' at out out' (record { bytes = r; next = Some (record { next = 1; lower = k; higher = j; count = p.count + 1 }) })
     by_race y e k j ek ej a =
-        let w = g.lent.links.good.well_formed in
+        let w = table.links.good.well_formed in
         let b = rw (ek, ej) at a in
         rw (ek, ej) (record {
           line = race_line y.lower y.higher y.witness;
-          first = from-race (trace table) w p y e;
+          first = from-race (events table) w p y e;
           puts = b;
-          countable = (race_countable (trace table) w p y e g.countable).1;
+          countable = (race_countable (events table) w p y e g.countable).1;
           list_long = long;
         })
 
     module _ (o : FoundRace) (e : x ≡ Some o) where
-      race : (y : Race) × (next_race (trace table) p.lower p.higher ≡ some y) × (o.lower ≡ y.lower) × (o.higher ≡ y.higher) × (o.length ≡ length y.witness)
-      race = handed-some (next_race (trace table) p.lower p.higher) o (sym e ∙ h.says)
+      race : (y : Race) × (next_race (events table) p.lower p.higher ≡ some y) × (o.lower ≡ y.lower) × (o.higher ≡ y.higher) × (o.length ≡ length y.witness)
+      race = handed-some (next_race (events table) p.lower p.higher) o (sym e ∙ h.says)
 
       in_list : list' ≡ in_front race.0.witness list
       in_list = rw race.1 at h.wrote
@@ -118,37 +119,37 @@ module _ {p : Position} {table list : List ℕ} {at : ℕ} {out : List ℕ} (g :
       race-room = let l = race_long in let i = race_listed in let m = g.entries in record { room = g.room; few = omega arith }
 
       pub count_fits : Fits w32 (p.count + 1)
-      count_fits = let y = race in record { fits = (race_countable (trace table) g.lent.links.good.well_formed p y.0 y.1 g.countable).0 }
+      count_fits = let y = race in record { fits = (race_countable (events table) table.links.good.well_formed p y.0 y.1 g.countable).0 }
 
       in_front_lem : take o.length list' ≡ race.0.witness
       in_front_lem = let v = race.0.witness in ap (λ (i : ℕ). take i list') race.4 ∙ ap (take (length v)) in_list ∙ front_taken v list
 
       pub line_more : {out' : List ℕ} {r : ℕ} → Appends (race_line o.lower o.higher (take o.length list')) at out out' r
-          → Advances (trace table) (races_from (trace table) p) list list' at out out' (record { bytes = r; next = Some (record { next = 1; lower = o.lower; higher = o.higher; count = p.count + 1 }) })
+          → Advances (events table) (races_from (events table) p) list list' at out out' (record { bytes = r; next = Some (record { next = 1; lower = o.lower; higher = o.higher; count = p.count + 1 }) })
       line_more a = let y = race in by_race y.0 y.1 o.lower o.higher y.2 y.3 (rw in_front_lem at a)
 
 -- what is lent is ready for the next line
-again : {p q : Position} {table list list' : List ℕ} {at m : ℕ} {out out' : List ℕ} → Writing table p list at out
-    → Countable (trace table) q → length list' ≡ length list → Room m out' → Writing table q list' m out'
+again : {p q : Position} {table : Table} {list list' : List ℕ} {at m : ℕ} {out out' : List ℕ} → Writing table p list at out
+    → Countable (events table) q → length list' ≡ length list → Room m out' → Writing table q list' m out'
 again g c l h =
     let i = g.entries in
     let d = g.lent.room in
-    record { lent = record { links = g.lent.links; room = omega arith }; entries = omega arith; countable = c; room = h }
+    record { lent = record { room = omega arith }; entries = omega arith; countable = c; room = h }
 
 -- ---- as many lines as fit
 
 -- the lines from p on are written as far as q: some bytes were put, and what is to be put in all is these and what is to be put from q on
-pub record Filling (table : List ℕ) (p : Position) (list₀ out₀ list out : List ℕ) (q : Position) (n : ℕ) : Type 0 where
+pub record Filling (table : Table) (p : Position) (list₀ out₀ list out : List ℕ) (q : Position) (n : ℕ) : Type 0 where
   pub writing : Writing table q list n out
   pub put : List ℕ
   pub puts : Appends put 0 out₀ out n
-  pub bytes : (fill (length out₀) (lines_from (trace table) p)).0 ≡ put ++ (fill (length out - n) (lines_from (trace table) q)).0
-  pub stops : (fill (length out₀) (lines_from (trace table) p)).1 ≡ (fill (length out - n) (lines_from (trace table) q)).1
-  pub left : length (lines_from (trace table) q) ≤ length (lines_from (trace table) p)
+  pub bytes : (fill (length out₀) (lines_from (events table) p)).0 ≡ put ++ (fill (length out - n) (lines_from (events table) q)).0
+  pub stops : (fill (length out₀) (lines_from (events table) p)).1 ≡ (fill (length out - n) (lines_from (events table) q)).1
+  pub left : length (lines_from (events table) q) ≤ length (lines_from (events table) p)
   pub list_long : length list ≡ length list₀
   pub out_long : length out ≡ length out₀
 
-pub filling_start : {p : Position} {table list out : List ℕ} → Writing table p list 0 out → Filling table p list out list out p 0
+pub filling_start : {p : Position} {table : Table} {list out : List ℕ} → Writing table p list 0 out → Filling table p list out list out p 0
 filling_start {out = out} g = record {
   writing = g;
   put = [];
@@ -161,9 +162,9 @@ filling_start {out = out} g = record {
 }
 
 -- what was put is what fills the buffer
-filled : {p : Position} {table list₀ out₀ list out : List ℕ} {q : Position} {m : ℕ} → Filling table p list₀ out₀ list out q m
-    → {list' out' : List ℕ} (w : Progress) (x : Advances (trace table) (lines_from (trace table) q) list list' m out out' w)
-    → fill (length out - m) (lines_from (trace table) q) ≡ (x.line, next_of w) → Fills (trace table) p list₀ list' out₀ out' w
+filled : {p : Position} {table : Table} {list₀ out₀ list out : List ℕ} {q : Position} {m : ℕ} → Filling table p list₀ out₀ list out q m
+    → {list' out' : List ℕ} (w : Progress) (x : Advances (events table) (lines_from (events table) q) list list' m out out' w)
+    → fill (length out - m) (lines_from (events table) q) ≡ (x.line, next_of w) → Fills (events table) p list₀ list' out₀ out' w
 filled f w x b =
     let l = ap length x.first in
     let k = f.left in
@@ -188,15 +189,15 @@ module _ (w : Progress) (r : Position) (e : w.next ≡ Some r) where
   countable_on t c = let P : RustOption Position → Type 0 = λ o. OnNext (Countable t) (position_in o) in subst P e c
 
 -- the lines from p on are written as far as the one that w tells of
-pub record Going (table : List ℕ) (p : Position) (list₀ out₀ list out : List ℕ) (w : Progress) : Type 0 where
+pub record Going (table : Table) (p : Position) (list₀ out₀ list out : List ℕ) (w : Progress) : Type 0 where
   pub from : Position
   pub at : ℕ
   pub list_before : List ℕ
   pub out_before : List ℕ
   pub filling : Filling table p list₀ out₀ list_before out_before from at
-  pub line : Advances (trace table) (lines_from (trace table) from) list_before list at out_before out w
+  pub line : Advances (events table) (lines_from (events table) from) list_before list at out_before out w
 
-module _ {p : Position} {table list₀ out₀ list out : List ℕ} {w : Progress} (g : Going table p list₀ out₀ list out w) where
+module _ {p : Position} {table : Table} {list₀ out₀ list out : List ℕ} {w : Progress} (g : Going table p list₀ out₀ list out w) where
   -- the room that is left behind the line
   room-left : length g.out_before - g.at - length g.line.line ≡ length out - w.bytes
   room-left = let k = g.line.puts.ends in let s = g.line.puts.same in omega arith
@@ -204,14 +205,14 @@ module _ {p : Position} {table list₀ out₀ list out : List ℕ} {w : Progress
   pub going_within : w.bytes ≤ length out
   going_within = let a = g.line.puts.within in let b = g.line.puts.same in omega arith
 
-  pub going_full : length out - w.bytes < line_bytes → Fills (trace table) p list₀ list out₀ out w
+  pub going_full : length out - w.bytes < line_bytes → Fills (events table) p list₀ list out₀ out w
   going_full h =
       let k = room-left in
       let v : length g.out_before - g.at - length g.line.line < line_bytes = omega arith in
-      filled g.filling w g.line (ap (fill (length g.out_before - g.at)) g.line.first ∙ fill_stops (length g.out_before - g.at) (record { bytes = g.line.line; behind = next_of w }) (after (lines_from (trace table)) (next_of w)) v)
+      filled g.filling w g.line (ap (fill (length g.out_before - g.at)) g.line.first ∙ fill_stops (length g.out_before - g.at) (record { bytes = g.line.line; behind = next_of w }) (after (lines_from (events table)) (next_of w)) v)
 
-  pub going_ended : w.next ≡ None → Fills (trace table) p list₀ list out₀ out w
-  going_ended e = filled g.filling w g.line (ap (fill (length g.out_before - g.at)) g.line.first ∙ fill_ends (length g.out_before - g.at) (trace table) g.line.line (next_of w) (ap position_in e))
+  pub going_ended : w.next ≡ None → Fills (events table) p list₀ list out₀ out w
+  going_ended e = filled g.filling w g.line (ap (fill (length g.out_before - g.at)) g.line.first ∙ fill_ends (length g.out_before - g.at) (events table) g.line.line (next_of w) (ap position_in e))
 
   module _ (r : Position) (e : w.next ≡ Some r) (h : line_bytes ≤ length out - w.bytes) where
     going_filling : Filling table p list₀ out₀ list out r w.bytes
@@ -223,30 +224,30 @@ module _ {p : Position} {table list₀ out₀ list out : List ℕ} {w : Progress
         let i = going_within in
         let d : Room w.bytes out = omega arith in
         let a = f.left in
-        let b = ap length (y.first ∙ ap (λ (l : List Line). record { bytes = y.line; behind = next_of w } ∷ l) (lines_behind w r e (trace table))) in
-        let n : fill (length g.out_before - g.at) (lines_from (trace table) g.from) ≡ (y.line ++ (fill (length out - w.bytes) (lines_from (trace table) r)).0, (fill (length out - w.bytes) (lines_from (trace table) r)).1) =
-        rw (room-left, lines_behind w r e (trace table)) at (ap (fill (length g.out_before - g.at)) y.first ∙ fill_goes (length g.out_before - g.at) (record { bytes = y.line; behind = next_of w }) (after (lines_from (trace table)) (next_of w)) v) in
+        let b = ap length (y.first ∙ ap (λ (l : List Line). record { bytes = y.line; behind = next_of w } ∷ l) (lines_behind w r e (events table))) in
+        let n : fill (length g.out_before - g.at) (lines_from (events table) g.from) ≡ (y.line ++ (fill (length out - w.bytes) (lines_from (events table) r)).0, (fill (length out - w.bytes) (lines_from (events table) r)).1) =
+        rw (room-left, lines_behind w r e (events table)) at (ap (fill (length g.out_before - g.at)) y.first ∙ fill_goes (length g.out_before - g.at) (record { bytes = y.line; behind = next_of w }) (after (lines_from (events table)) (next_of w)) v) in
         record {
-          writing = again f.writing (countable_on w r e (trace table) y.countable) y.list_long d;
+          writing = again f.writing (countable_on w r e (events table) y.countable) y.list_long d;
           put = f.put ++ y.line;
           puts = appends_then f.puts y.puts;
-          bytes = f.bytes ∙ ap (λ (z : List ℕ × Option Position). f.put ++ z.0) n ∙ sym (append_assoc f.put y.line (fill (length out - w.bytes) (lines_from (trace table) r)).0);
+          bytes = f.bytes ∙ ap (λ (z : List ℕ × Option Position). f.put ++ z.0) n ∙ sym (append_assoc f.put y.line (fill (length out - w.bytes) (lines_from (events table) r)).0);
           stops = f.stops ∙ ap (λ (z : List ℕ × Option Position). z.1) n;
           left = omega arith;
           list_long = y.list_long ∙ f.list_long;
           out_long = y.puts.same ∙ f.out_long;
         }
 
-    pub going_on : {list' out' : List ℕ} (w' : Progress) → Advances (trace table) (lines_from (trace table) r) list list' w.bytes out out' w' → Going table p list₀ out₀ list' out' w'
+    pub going_on : {list' out' : List ℕ} (w' : Progress) → Advances (events table) (lines_from (events table) r) list list' w.bytes out out' w' → Going table p list₀ out₀ list' out' w'
     going_on w' x = record { from = r; at = w.bytes; list_before = list; out_before = out; filling = going_filling; line = x }
 
 -- ---- block after block: what a caller goes on by
 
-module _ {p : Position} {table list out : List ℕ} (g : Writing table p list 0 out)
-    {list' out' : List ℕ} (w : Progress) (x : Fills (trace table) p list list' out out' w) where
+module _ {p : Position} {table : Table} {list out : List ℕ} (g : Writing table p list 0 out)
+    {list' out' : List ℕ} (w : Progress) (x : Fills (events table) p list list' out out' w) where
   pub block_within : w.bytes ≤ length out'
   block_within = let a = x.writes.puts.within in let b = x.writes.puts.same in omega arith
 
   -- the next block in the same buffer
   pub block_again : (q : Position) → w.next ≡ Some q → Writing table q list' 0 out'
-  block_again q e = let r = g.room in let b = x.writes.puts.same in let d : Room 0 out' = omega arith in again g (countable_on w q e (trace table) x.countable) x.list_long d
+  block_again q e = let r = g.room in let b = x.writes.puts.same in let d : Room 0 out' = omega arith in again g (countable_on w q e (events table) x.countable) x.list_long d

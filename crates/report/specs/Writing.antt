@@ -3,7 +3,8 @@ use Rattle.std.specs.Prelude.{ℕ, ◌+◌, ◌<◌, ◌≡◌, Option as RustOp
 use Rattle.std.proofs.Math.Option.{Option, none, some}
 use Rattle.model.specs.Trace.{Trace}
 use Rattle.model.specs.Good.{max_events}
-use Rattle.table.specs.Table.{trace, Linked}
+use Rattle.table.specs.declared.judged.Table.{Table}
+use Rattle.table.specs.Judged.{events}
 use Rattle.races.specs.Witness.{WitnessRoom}
 use Rattle.appending.specs.Appended.{Appends}
 use Rattle.lines.specs.Room.{Room}
@@ -16,18 +17,17 @@ use Rattle.report.specs.declared.Progress.{Progress}
 unfoldable pub Countable : Trace → Position → Type 0
 Countable t p = p.count + length (races_left t p) < 4294967296
 
--- a table with its links, a position, and room for a line
-pub record Starting (table : List ℕ) (p : Position) (out : List ℕ) : Type 0 where
-  pub links : Linked table
-  pub countable : Countable (trace table) p
+-- a judged recording's table, a position in its report, and room for a line
+pub record Starting (table : Table) (p : Position) (out : List ℕ) : Type 0 where
+  pub countable : Countable (events table) p
   pub room : Room 0 out
 
--- what writing goes by: a table and what is lent for its witnesses, the list with as many entries as a trace may have events; a position, and room
+-- what writing goes by: a judged recording's table and what is lent for its witnesses, the list with as many entries as a trace may have events; a position, and room
 -- for a line
-pub record Writing (table : List ℕ) (p : Position) (list : List ℕ) (at : ℕ) (out : List ℕ) : Type 0 where
+pub record Writing (table : Table) (p : Position) (list : List ℕ) (at : ℕ) (out : List ℕ) : Type 0 where
   pub lent : WitnessRoom table list
   pub entries : length list ≡ max_events
-  pub countable : Countable (trace table) p
+  pub countable : Countable (events table) p
   pub room : Room at out
 
 -- the bytes in use after an answer

@@ -60,7 +60,7 @@ fn first_line(table: &Table, out: &mut [u8], at: usize) -> usize
 
 // The next race's line, or the last line. The race and its witness come from one asking.
 fn race_line(table: &Table, p: Position, list: &mut [u16], out: &mut [u8], at: usize) -> Progress
-    requires { Writing table.now.words.now p list.old at out.old }
+    requires { Writing table.now p list.old at out.old }
     ensures { Advances (events table.now) (races_from (events table.now) p) list.old list.new at out.old out.new result }
 {
     match races::next_race(table, p.lower, p.higher, list) {
@@ -86,7 +86,7 @@ fn race_line(table: &Table, p: Position, list: &mut [u16], out: &mut [u8], at: u
 // The line that comes next at a position.
 #[tactic(auto, unfolding(crate::specs::Rest::lines_from))]
 fn line(table: &Table, p: Position, list: &mut [u16], out: &mut [u8], at: usize) -> Progress
-    requires { Writing table.now.words.now p list.old at out.old }
+    requires { Writing table.now p list.old at out.old }
     ensures { Advances (events table.now) (lines_from (events table.now) p) list.old list.new at out.old out.new result }
 {
     if p.next != 0 {
@@ -100,7 +100,7 @@ fn line(table: &Table, p: Position, list: &mut [u16], out: &mut [u8], at: usize)
 
 // The lines from a position on, as many as surely fit, in the front of a buffer.
 pub fn block(table: &Table, p: Position, list: &mut [u16], out: &mut [u8]) -> Progress
-    requires { Writing table.now.words.now p list.old 0 out.old }
+    requires { Writing table.now p list.old 0 out.old }
     ensures { Fills (events table.now) p list.old list.new out.old out.new result }
 {
     let mut progress = line(table, p, list, out, 0);
@@ -115,7 +115,7 @@ pub fn block(table: &Table, p: Position, list: &mut [u16], out: &mut [u8]) -> Pr
 
 // The same with a new list.
 fn new_block(table: &Table, p: Position, out: &mut [u8]) -> Progress
-    requires { Starting table.now.words.now p out.old }
+    requires { Starting table.now p out.old }
     ensures { Writes (lines_from (events table.now) p) out.old out.new result }
 {
     let mut list = [0u16; Recording::MAX_EVENTS];

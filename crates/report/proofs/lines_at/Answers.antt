@@ -4,7 +4,7 @@ use Rattle.report.proofs.WritingLaws.{refused_writes, good_starting, good_writes
 use Rattle.report.proofs.lines_at.Goals as goal
 
 pub new_block-requires : goal.new_block-requires
-new_block-requires c = search (good_starting c.in-Ok.ensures, rules)
+new_block-requires c = search (good_starting, rules)
 
 pub returns-in-Err : goal.returns-in-Err
 returns-in-Err c = search (refused_writes c.args.file.now c.in-Err.ensures, rules)
