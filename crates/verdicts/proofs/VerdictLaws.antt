@@ -9,7 +9,8 @@ use borrow.Author.Tests.{not-false, le-ltb}
 use Rattle.model.proofs.Lists.{front_length}
 use Rattle.decision.specs.Decision.{witness}
 use Rattle.limits.specs.Limits.{area_bytes, is_area_size}
-use Rattle.table.specs.Table.{trace}
+use Rattle.table.specs.declared.judged.Table.{Table}
+use Rattle.table.specs.Judged.{events}
 use Rattle.verdicts.specs.Verdict.{verdict_in, cleared}
 use Rattle.verdicts.specs.Deciding.{Askable, Decidable, Decides}
 use Rattle.std.specs.Prelude.{Option as RustOption, Ok}
@@ -29,12 +30,12 @@ whole_area area part h z = front-zero area_bytes area part h z
 
 -- ---- the answer
 
-module _ {table : List ℕ} {a b : ℕ} {list : List ℕ} (q : Askable table a b list) (area : List ℕ) (d : Bool) (ed : d ≡ is_area_size (length area)) (w : not d ≡ false) where
+module _ {table : Table} {a b : ℕ} {list : List ℕ} (q : Askable table a b list) (area : List ℕ) (d : Bool) (ed : d ≡ is_area_size (length area)) (w : not d ≡ false) where
   pub pair_decidable : Decidable table a b list (take area_bytes area)
   pair_decidable = record { askable = q; long = sym (front_length area_bytes area (area_long area d ed w)) }
 
-  pub pair_decided : (list' part : List ℕ) (r : RustOption ℕ) → Decides (witness (trace table) a b) list list' (take area_bytes area) part r
-      → (Ok r, list', part ++ drop area_bytes area) ≡ verdict_in none (trace table) a b list area
+  pub pair_decided : (list' part : List ℕ) (r : RustOption ℕ) → Decides (witness (events table) a b) list list' (take area_bytes area) part r
+      → (Ok r, list', part ++ drop area_bytes area) ≡ verdict_in none (events table) a b list area
   unfolding verdict_in
   pair_decided list' part r x =
       rw (x.says, x.wrote, whole_area area part (area_long area d ed w) x.zero, q.conflicting, le-ltb _ _ q.room, sym ed ∙ not-false d w)

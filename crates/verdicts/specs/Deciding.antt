@@ -4,20 +4,20 @@ use Rattle.std.proofs.Math.Option.{Option}
 use Rattle.model.specs.Listing.{Race}
 use Rattle.decision.specs.Decision.{is_conflicting}
 use Rattle.limits.specs.Limits.{area_bytes}
-use Rattle.table.specs.Table.{trace, Linked}
+use Rattle.table.specs.declared.judged.Table.{Table}
+use Rattle.table.specs.Judged.{events}
 use Rattle.races.specs.Witness.{list_with}
 use Rattle.verdicts.specs.Verdict.{finding}
 use Rattle.verdicts.specs.Next.{next}
 use Rattle.verdicts.specs.declared.Pair.{Pair}
 
--- a conflicting pair of a table with its links, and a list with room for its witness
-pub record Askable (table : List ℕ) (a b : ℕ) (list : List ℕ) : Type 0 where
-  pub links : Linked table
-  pub conflicting : is_conflicting (trace table) a b ≡ true
-  pub room : length (trace table) ≤ length list
+-- a conflicting pair of a judged recording, and a list with room for its witness
+pub record Askable (table : Table) (a b : ℕ) (list : List ℕ) : Type 0 where
+  pub conflicting : is_conflicting (events table) a b ≡ true
+  pub room : length (events table) ≤ length list
 
 -- the same, and a work area
-pub record Decidable (table : List ℕ) (a b : ℕ) (list area : List ℕ) : Type 0 where
+pub record Decidable (table : Table) (a b : ℕ) (list area : List ℕ) : Type 0 where
   pub askable : Askable table a b list
   pub long : length area ≡ area_bytes
 
@@ -27,9 +27,8 @@ pub record Decides (o : Option (List ℕ)) (list list' area area' : List ℕ) (r
   pub wrote : list' ≡ list_with o list
   pub zero : area' ≡ replicate (length area) 0
 
--- a table with its links, and a work area
-pub record Searchable (table area : List ℕ) : Type 0 where
-  pub links : Linked table
+-- a work area of just those bytes
+pub record Searchable (area : List ℕ) : Type 0 where
   pub long : length area ≡ area_bytes
 
 -- the next race o

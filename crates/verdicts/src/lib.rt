@@ -21,7 +21,7 @@ pub struct Pair {
 
 // The length of the witness of (a, b), if it is reported, with a work area of just the bytes that are promised to be zero after it.
 fn decide(table: &Table, a: u16, b: u16, list: &mut [u16], area: &mut [u8]) -> Option<u16>
-    requires { Decidable table.now.words.now a b list.old area.old }
+    requires { Decidable table.now a b list.old area.old }
     ensures { Decides (witness (events table.now) a b) list.old list.new area.old area.new result }
 {
     bits::clear(area);
@@ -37,7 +37,7 @@ fn verdict_with(
     list: &mut [u16],
     area: &mut [u8],
 ) -> Result<Option<u16>, Refusal>
-    requires { Askable table.now.words.now a b list.old }
+    requires { Askable table.now a b list.old }
     ensures { (result, list.new, area.new) ≡ verdict_in none (events table.now) a b list.old area.old }
 {
     if !Recording::area_suffices(area.len()) {
@@ -68,7 +68,7 @@ pub fn verdict_in(
 
 // The first race after (a, b), with a work area of just the bytes that are promised to be zero after it.
 fn find_next(table: &Table, a: u16, b: u16, area: &mut [u8]) -> Option<Pair>
-    requires { Searchable table.now.words.now area.old }
+    requires { Searchable area.old }
     ensures { Finds (next_race (events table.now) a b) area.old area.new result }
 {
     bits::clear(area);

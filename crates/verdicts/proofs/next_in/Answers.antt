@@ -11,7 +11,7 @@ pub slice_bounds-find_next-end-2 : goal.slice_bounds-find_next-end-2
 slice_bounds-find_next-end-2 c = front_length _ c.args.area.now (search (area_long, rules))
 
 pub find_next-requires : goal.find_next-requires
-find_next-requires c = search (next_searchable, rules)
+find_next-requires c = search (next_searchable c.args.area.now, rules)
 
 pub returns : goal.returns
 returns c = search (next-found, rules)

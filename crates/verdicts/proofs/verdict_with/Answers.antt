@@ -10,7 +10,7 @@ pub slice_bounds-decide-end-2 : goal.slice_bounds-decide-end-2
 slice_bounds-decide-end-2 c = front_length _ c.args.area.now (search (area_long, rules))
 
 pub decide-requires : goal.decide-requires
-decide-requires c = search (pair_decidable, rules)
+decide-requires c = search (pair_decidable c.requires c.args.area.now, rules)
 
 pub returns : goal.returns
 returns c = search (pair_decided, rules)
