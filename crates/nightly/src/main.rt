@@ -22,7 +22,7 @@ fn say<R: Eprint>(rt: &R, message: &str) {
 
 // The report of a good file, block by block.
 fn write_blocks<R: Print>(rt: &R, table: &Table, list: &mut [u16], out: &mut [u8]) -> io::Result<()>
-    requires { Writing table.now.words.now at_start list.old 0 out.old }
+    requires { Writing table.now at_start list.old 0 out.old }
 {
     let mut next = Some(Position::start());
     while let Some(position) = next {
@@ -35,7 +35,7 @@ fn write_blocks<R: Print>(rt: &R, table: &Table, list: &mut [u16], out: &mut [u8
 
 // The same with a new list.
 fn write_lines<R: Print>(rt: &R, table: &Table, out: &mut [u8]) -> io::Result<()>
-    requires { Starting table.now.words.now at_start out.old }
+    requires { Starting table.now at_start out.old }
 {
     let mut list = [0u16; Recording::MAX_EVENTS];
     write_blocks(rt, table, &mut list, out)
