@@ -22,8 +22,8 @@ pub record Starting (table : Table) (p : Position) (out : List ℕ) : Type 0 whe
   pub countable : Countable (events table) p
   pub room : Room 0 out
 
--- what writing goes by: a judged recording's table and what is lent for its witnesses, the list with as many entries as a trace may have events; a position, and room
--- for a line
+-- what writing goes by: a judged recording's table and what is lent for its witnesses, the list with as many entries as a trace may have events;
+-- a position, and room for a line
 pub record Writing (table : Table) (p : Position) (list : List ℕ) (at : ℕ) (out : List ℕ) : Type 0 where
   pub lent : WitnessRoom table list
   pub entries : length list ≡ max_events
