@@ -5,7 +5,6 @@
 ghost use Rattle.std.specs.Prelude.{◌≡◌, ◌<◌, length};
 ghost use Rattle.model.specs.Trace.{Valid};
 ghost use Rattle.model.specs.Lists.{in_front};
-ghost use Rattle.model.specs.Good.{Good};
 ghost use Rattle.decision.specs.Stairs.{climb};
 ghost use Rattle.table.specs.Judged.{events};
 ghost use Rattle.stairs.specs.Stairs.{at, slot_of, slots, Ready, Solved};
