@@ -2,6 +2,7 @@
 #![tactic(auto)]
 
 ghost use Rattle.std.specs.Prelude.{◌≡◌, leb, Some};
+ghost use Rattle.limits.specs.Kinds.{kind_number, IsKind};
 ghost use Rattle.model.specs.Good.{max_events, max_thread, object_limit, is_known_kind};
 ghost use Rattle.limits.specs.Limits.{is_file_size, is_area_size, no_locks};
 ghost use Rattle.limits.specs.Refusals.{number_of, event_of, text_of};
@@ -28,7 +29,56 @@ impl Thread {
     }
 }
 
-// An event: its thread, its kind, and its object: the cell of a read or write, the lock of an acquire or release, or the thread that is forked or joined.
+// What an event does.
+#[derive(Clone, Copy, PartialEq, Eq, Debug)]
+pub enum Kind {
+    Read,
+    Write,
+    Acquire,
+    Release,
+    Fork,
+    Join,
+}
+
+// A number that is no kind's.
+#[derive(Clone, Copy, PartialEq, Eq, Debug)]
+pub struct UnknownKind(pub u8);
+
+impl Kind {
+    // Its number in a file.
+    pub fn number(self) -> u8
+        ensures { result ≡ kind_number self }
+    {
+        match self {
+            Kind::Read => 1,
+            Kind::Write => 2,
+            Kind::Acquire => 3,
+            Kind::Release => 4,
+            Kind::Fork => 5,
+            Kind::Join => 6,
+        }
+    }
+}
+
+impl TryFrom<u8> for Kind {
+    type Error = UnknownKind;
+
+    ghost try_from_gives = { IsKind };
+
+    fn try_from(number: u8) -> Result<Kind, UnknownKind> {
+        match number {
+            1 => Ok(Kind::Read),
+            2 => Ok(Kind::Write),
+            3 => Ok(Kind::Acquire),
+            4 => Ok(Kind::Release),
+            5 => Ok(Kind::Fork),
+            6 => Ok(Kind::Join),
+            _ => Err(UnknownKind(number)),
+        }
+    }
+}
+
+// An event as a file has it: its thread, the number of its kind, and its object: the cell of a read or write, the lock of an acquire or release, or the thread that is forked or joined.
 #[derive(Clone, Copy)]
 pub struct Event {
     pub thread: Thread,
@@ -46,30 +96,18 @@ impl Event {
     // The places of a table by object.
     pub const OBJECTS: usize = Event::MAX_OBJECT + 1;
 
-    // The kinds, from the lowest to the highest.
-    pub const READ: u8 = 1;
-
-    pub const WRITE: u8 = 2;
-
-    pub const ACQUIRE: u8 = 3;
-
-    pub const RELEASE: u8 = 4;
-
-    pub const FORK: u8 = 5;
-
-    pub const JOIN: u8 = 6;
-
+    // Is its kind's number one of a kind?
     pub fn kind_known(self) -> bool
         ensures { result ≡ is_known_kind self.kind }
     {
-        (Event::READ..=Event::JOIN).contains(&self.kind)
+        Kind::try_from(self.kind).is_ok()
     }
 
     // The highest number of an object of a kind of event: that of a fork or join is a thread.
     pub fn object_limit(kind: u8) -> usize
         ensures { result ≡ object_limit kind }
     {
-        if kind < Event::FORK {
+        if kind < Kind::Fork.number() {
             return Event::MAX_OBJECT;
         }
         Thread::MAX as usize

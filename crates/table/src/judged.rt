@@ -3,6 +3,8 @@
 ghost use Rattle.table.specs.Table.{Linked};
 ghost use Rattle.table.specs.Facts.{Linked_prop};
 
+use limits::Kind;
+
 // The words of a table that has the links of all its events, and so those of a good recording. A link is 0 where there is none: the definitions `previous`,
 // `waits_for`, `release_of`, `began` and `fork_of` say so, and a word of the table has room for no more.
 #[derive(Clone, Copy)]
@@ -16,6 +18,7 @@ impl Table<'_> {
     ghost use Rattle.model.specs.Trace.{Valid, fork, thread_of, kind_of, object_of};
     ghost use Rattle.model.specs.Lists.{threads};
     ghost use Rattle.model.specs.Good.{max_thread, max_object};
+    ghost use Rattle.limits.specs.Kinds.{kind_number};
     ghost use Rattle.decision.specs.Decision.{is_conflicting};
     ghost use Rattle.table.specs.Conflicts.{Lower};
     ghost use Rattle.table.specs.Links.{previous, waits_for, release_of, began, fork_of};
@@ -48,11 +51,11 @@ impl Table<'_> {
     }
 
     // The kind of event k.
-    pub fn kind_at(&self, k: usize) -> u8
+    pub fn kind_at(&self, k: usize) -> Kind
         requires { Valid (events self.now) k }
-        ensures { result ≡ kind_of (events self.now) k }
+        ensures { kind_number result ≡ kind_of (events self.now) k }
     {
-        crate::kind_at(self.words, k)
+        crate::kind_of(self.words, k)
     }
 
     // The object of event k, a cell, a lock, or the thread that is forked or joined, as a place of a list by object.

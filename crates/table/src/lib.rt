@@ -4,13 +4,14 @@
 ghost use Rattle.std.specs.Prelude.{◌≡◌, ◌≤◌, ◌<◌, length};
 ghost use Rattle.model.specs.Trace.{Valid, fork, thread_of, kind_of, object_of, does};
 ghost use Rattle.model.specs.Good.{Good, max_thread, max_object};
+ghost use Rattle.limits.specs.Kinds.{kind_number};
 ghost use Rattle.table.specs.Conflicts.{accesses};
 ghost use Rattle.table.specs.Table.{words, word, trace, Place, with_word};
 
 mod judged;
 
 pub use judged::Table;
-use limits::{Event, Recording};
+use limits::{Kind, Recording};
 
 // The words of a row.
 pub const WORDS: usize = 8;
@@ -76,13 +77,21 @@ pub fn thread_at(table: &[u16], k: usize) -> u8
     (word(table, k, OWN) % 256) as u8
 }
 
-// The kind of event k.
+// The number of event k's kind.
 #[tactic(auto, using(crate::proofs::TableLaws::kind_is))]
 pub fn kind_at(table: &[u16], k: usize) -> u8
     requires { Valid (trace table.now) k }
     ensures { result ≡ kind_of (trace table.now) k }
 {
     (word(table, k, OWN) / 256) as u8
+}
+
+// The kind of event k.
+pub fn kind_of(table: &[u16], k: usize) -> Kind
+    requires { Good (trace table.now) × Valid (trace table.now) k }
+    ensures { kind_number result ≡ kind_of (trace table.now) k }
+{
+    Kind::try_from(kind_at(table, k)).unwrap()
 }
 
 // The object of event k: a cell, a lock, or the thread that is forked or joined.
@@ -135,12 +144,12 @@ pub fn is_event(table: &[u16], k: usize, kind: u8, object: usize) -> bool
 
 // Are events of these kinds accesses, at least one a write?
 #[tactic(auto, unfolding(crate::specs::Conflicts::accesses))]
-fn accesses(c: u8, d: u8) -> bool
-    ensures { result ≡ accesses c d }
+fn accesses(c: Kind, d: Kind) -> bool
+    ensures { result ≡ accesses (kind_number c) (kind_number d) }
 {
     matches!(
         (c, d),
-        (Event::WRITE, Event::READ | Event::WRITE) | (Event::READ, Event::WRITE)
+        (Kind::Write, Kind::Read | Kind::Write) | (Kind::Read, Kind::Write)
     )
 }
 
