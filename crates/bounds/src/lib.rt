@@ -10,7 +10,7 @@ ghost use Rattle.model.specs.Good.{max_object};
 ghost use Rattle.bounds.specs.Bounds.{is_own, Given, Ended, Needed, Bound, Covers};
 ghost use Rattle.bounds.specs.Steps.{with_end, raised_to, is_outside, with_read, Reading, Read, own_event, action_bound, first_bound, First, is_other, with_over, FirstTwo, with_section, Sections, is_open_in, with_open};
 
-use limits::{Event, Thread};
+use limits::{Event, Kind, Thread};
 use table::Table;
 
 // Is w, which may be 0, an event of thread m?
@@ -51,7 +51,7 @@ fn outside(table: &Table, m: u8, e: usize) -> bool
     requires { Valid (events table.now) e }
     ensures { result ≡ is_outside (events table.now) m e }
 {
-    table.kind_at(e) == Event::READ && !is_own(table, m, table.waits_at(e))
+    table.kind_at(e) == Kind::Read && !is_own(table, m, table.waits_at(e))
 }
 
 // Event e of p, where it is such a read, is the last of its cell so far.
@@ -104,7 +104,7 @@ fn action_bound(table: &Table, m: u8, k: usize, seen: &[u16; Event::OBJECTS]) ->
     requires { Valid (events table.now) k }
     ensures { result ≡ action_bound (events table.now) m k seen.now }
 {
-    if table.kind_at(k) == Event::WRITE {
+    if table.kind_at(k) == Kind::Write {
         let x = table.object_place(k);
         return seen[x];
     }
@@ -150,7 +150,7 @@ fn note_write(table: &Table, e: usize, last: &mut [u16; Event::OBJECTS])
     requires { Valid (events table.now) e }
     ensures { last.new ≡ with_write (events table.now) e last.old }
 {
-    if table.kind_at(e) == Event::WRITE {
+    if table.kind_at(e) == Kind::Write {
         let x = table.object_place(e);
         last[x] = e as u16;
     }
@@ -171,7 +171,7 @@ fn read_over(table: &Table, m: u8, e: usize, last: &[u16; Event::OBJECTS], need:
     requires { Valid (events table.now) e × (length (events table.now) < length need.old) }
     ensures { need.new ≡ with_over (events table.now) m e last.now need.old }
 {
-    if table.kind_at(e) != Event::READ {
+    if table.kind_at(e) != Kind::Read {
         return;
     }
     let w = table.waits_at(e);
@@ -200,7 +200,7 @@ fn note_section(table: &Table, v: usize, ends: &[u16], last: &mut [u16; Event::O
     requires { Valid (events table.now) v × (length (events table.now) < length ends.now) }
     ensures { last.new ≡ with_section (events table.now) v ends.now last.old }
 {
-    if table.kind_at(v) != Event::ACQUIRE {
+    if table.kind_at(v) != Kind::Acquire {
         return;
     }
     let x = table.object_place(v);
@@ -231,7 +231,7 @@ fn unended(table: &Table, tops: &[u16; Thread::COUNT], k: usize) -> bool
     requires { Valid (events table.now) k }
     ensures { result ≡ is_open_in (events table.now) tops.now k }
 {
-    if table.kind_at(k) != Event::ACQUIRE || table.began_at(k) != k {
+    if table.kind_at(k) != Kind::Acquire || table.began_at(k) != k {
         return false;
     }
     let r = table.released_at(k);

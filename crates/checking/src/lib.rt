@@ -12,7 +12,7 @@ ghost use Rattle.checking.specs.Faults.{number_of, fault_number};
 ghost use Rattle.checking.specs.Checking.{check_in};
 ghost use Rattle.checking.specs.Passing.{Knows, NextTold, PassedTold, ReadyTold, EnabledTold, AccessTold, FaultTold, KnowsMore, Walked};
 
-use limits::{Event, Locks, Refusal, Thread};
+use limits::{Event, Kind, Locks, Refusal, Thread};
 use table::Table;
 
 // A fault of a proposed list. `number` gives each its number in the paper.
@@ -80,7 +80,7 @@ fn is_ready(table: &Table, last: &[u16; Thread::COUNT], k: usize) -> bool
     if !has_passed(table, last, table.forked_at(k)) {
         return false;
     }
-    if table.kind_at(k) != Event::JOIN {
+    if table.kind_at(k) != Kind::Join {
         return true;
     }
     has_passed(table, last, table.waits_at(k))
@@ -107,13 +107,13 @@ fn access_fault(
 {
     let x = table.object_place(k);
     let kind = table.kind_at(k);
-    if kind == Event::READ {
+    if kind == Kind::Read {
         if usize::from(writes[x]) == table.waits_at(k) {
             return Ok(());
         }
         return Err(Fault::SeesOtherwise);
     }
-    if kind == Event::ACQUIRE {
+    if kind == Kind::Acquire {
         let c = table.thread_place(k);
         if locks[x] == 0 || locks[x] == (c + 1) as u8 {
             return Ok(());
@@ -161,18 +161,15 @@ fn pass(
     let at = k as usize;
     let c = table.thread_place(at);
     let x = table.object_place(at);
-    let kind = table.kind_at(at);
     last[c] = k;
-    if kind == Event::WRITE {
-        writes[x] = k;
-        return;
-    }
-    if kind == Event::ACQUIRE {
-        locks[x] = (c + 1) as u8;
-        return;
-    }
-    if table.released_at(at) == at {
-        locks[x] = 0;
+    match table.kind_at(at) {
+        Kind::Write => writes[x] = k,
+        Kind::Acquire => locks[x] = (c + 1) as u8,
+        _ => {
+            if table.released_at(at) == at {
+                locks[x] = 0;
+            }
+        }
     }
 }
 

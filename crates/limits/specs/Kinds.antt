@@ -1,5 +1,5 @@
 -- The kinds of events, each with its number in a file.
-use Rattle.std.specs.Prelude.{ℕ, ◌≡◌, ◌≤◌, Result, MatchResult}
+use Rattle.std.specs.Prelude.{ℕ, ◌≡◌, Result, MatchResult}
 use Rattle.model.specs.Trace.{read, write, acquire, release, fork, join}
 use Rattle.model.specs.Good.{KnownKind}
 use Rattle.limits.specs.declared.Kind.{Kind}

@@ -7,7 +7,7 @@ ghost use Rattle.table.specs.Judged.{events};
 ghost use Rattle.observing.specs.Observing.{observed_in};
 ghost use Rattle.observing.specs.Entries.{answer_of, entry_at, observations_in};
 
-use limits::{Event, Refusal};
+use limits::{Kind, Refusal};
 use table::Table;
 
 // The answer to question 2: the number of the write that the event sees, the start, or that it is not a read.
@@ -41,7 +41,7 @@ fn entry_at(table: &Table, k: usize) -> u16
     if k < 1 || table.count() < k {
         return NOT_A_READ;
     }
-    if table.kind_at(k) != Event::READ {
+    if table.kind_at(k) != Kind::Read {
         return NOT_A_READ;
     }
     table.waits_at(k) as u16

@@ -10,7 +10,7 @@ ghost use Rattle.table.specs.Judged.{events};
 ghost use Rattle.stairs.specs.Stairs.{at, slot_of, slots, Ready, Solved};
 ghost use Rattle.stairs.specs.Passes.{Moved, Noted, Upto, Reached, Met, Begun, asked, Pulled, Passed, is_moved_next, Climbing};
 
-use limits::Event;
+use limits::{Event, Kind};
 use table::Table;
 
 // A place for each cell and, behind them, for each lock.
@@ -24,7 +24,7 @@ fn slot(table: &Table, k: usize) -> usize
     ensures upper_bound { result < slots }
 {
     let x = table.object_place(k);
-    if table.kind_at(k) == Event::ACQUIRE {
+    if table.kind_at(k) == Kind::Acquire {
         return Event::OBJECTS + x;
     }
     x

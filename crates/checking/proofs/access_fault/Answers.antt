@@ -6,8 +6,8 @@ use Rattle.checking.proofs.access_fault.Goals.{then-locks-x-eq0-via-then-locks-x
 pub returns-then-from-waits_at : goal.returns-then-from-waits_at
 returns-then-from-waits_at c = search (sees-same, rules)
 
-pub returns-then-kind-eq-READ : goal.returns-then-kind-eq-READ
-returns-then-kind-eq-READ c = search sees-other
+pub returns-then-eq : goal.returns-then-eq
+returns-then-eq c = search sees-other
 
 pub returns-then-locks-x-eq0 : goal.returns-then-locks-x-eq0
 returns-then-locks-x-eq0 c =
@@ -16,8 +16,8 @@ returns-then-locks-x-eq0 c =
       | then-locks-x-eq0-via-else-locks-x-eq0+then-locks-x w ↦ search (lock-own, rules)
     ]
 
-pub returns-then-kind-eq-ACQUIRE : goal.returns-then-kind-eq-ACQUIRE
-returns-then-kind-eq-ACQUIRE c = search (lock_taken, rules)
+pub returns-then-eq-2 : goal.returns-then-eq-2
+returns-then-eq-2 c = search (lock_taken, rules)
 
 pub returns : goal.returns
 returns c = search (no_access, rules)

@@ -8,8 +8,8 @@ has_passed-requires c = search (fork_bounded, rules)
 pub returns-then-not-has_passed : goal.returns-then-not-has_passed
 returns-then-not-has_passed c = search (fork_ahead, rules)
 
-pub returns-then-kind_at-ne-JOIN : goal.returns-then-kind_at-ne-JOIN
-returns-then-kind_at-ne-JOIN c = search (ready_fork, rules)
+pub returns-then-ne : goal.returns-then-ne
+returns-then-ne c = search (ready_fork, rules)
 
 pub has_passed-requires-2 : goal.has_passed-requires-2
 has_passed-requires-2 c = search (waits_bounded, rules)

@@ -1,15 +1,16 @@
 use Rattle.std.proofs.Common.{rules}
+use Rattle.limits.proofs.KindLaws.{kind_other}
 use Rattle.checking.proofs.PassLaws.{pass_write, pass_acquire, pass_last, pass_other}
 use Rattle.checking.proofs.pass.Goals as goal
 
-pub returns-then-kind-eq-WRITE : goal.returns-then-kind-eq-WRITE
-returns-then-kind-eq-WRITE c = search pass_write
+pub returns-in-Write : goal.returns-in-Write
+returns-in-Write c = search (pass_write, rules)
 
-pub returns-then-kind-eq-ACQUIRE : goal.returns-then-kind-eq-ACQUIRE
-returns-then-kind-eq-ACQUIRE c = search (pass_acquire, rules)
+pub returns-in-Acquire : goal.returns-in-Acquire
+returns-in-Acquire c = search (pass_acquire, rules)
 
 pub returns-then-released_at-at : goal.returns-then-released_at-at
-returns-then-released_at-at c = search (pass_last, rules)
+returns-then-released_at-at c = search (pass_last, kind_other c.in_default.not-Write, kind_other c.in_default.not-Acquire, rules)
 
 pub returns-else-released_at-at : goal.returns-else-released_at-at
-returns-else-released_at-at c = search (pass_other, rules)
+returns-else-released_at-at c = search (pass_other, kind_other c.in_default.not-Write, kind_other c.in_default.not-Acquire, rules)
