@@ -106,21 +106,22 @@ fn access_fault(
     ensures { AccessTold (events table.now) writes.now locks.now k result }
 {
     let x = table.object_place(k);
-    let kind = table.kind_at(k);
-    if kind == Kind::Read {
-        if usize::from(writes[x]) == table.waits_at(k) {
-            return Ok(());
+    match table.kind_at(k) {
+        Kind::Read => {
+            if usize::from(writes[x]) == table.waits_at(k) {
+                return Ok(());
+            }
+            Err(Fault::SeesOtherwise)
         }
-        return Err(Fault::SeesOtherwise);
-    }
-    if kind == Kind::Acquire {
-        let c = table.thread_place(k);
-        if locks[x] == 0 || locks[x] == (c + 1) as u8 {
-            return Ok(());
+        Kind::Acquire => {
+            let c = table.thread_place(k);
+            if locks[x] == 0 || locks[x] == (c + 1) as u8 {
+                return Ok(());
+            }
+            Err(Fault::LockHeld)
         }
-        return Err(Fault::LockHeld);
+        _ => Ok(()),
     }
-    Ok(())
 }
 
 // The number k as the next of the list: its fault, where it has one.

@@ -1,4 +1,5 @@
 use Rattle.std.proofs.Common.{rules}
+use Rattle.limits.proofs.KindLaws.{kind_other}
 use Rattle.checking.proofs.PassLaws.{sees-same, sees-other, lock_free, lock-own, lock_taken, no_access}
 use Rattle.checking.proofs.access_fault.Goals as goal
 use Rattle.checking.proofs.access_fault.Goals.{then-locks-x-eq0-via-then-locks-x-eq0, then-locks-x-eq0-via-else-locks-x-eq0+then-locks-x}
@@ -6,8 +7,8 @@ use Rattle.checking.proofs.access_fault.Goals.{then-locks-x-eq0-via-then-locks-x
 pub returns-then-from-waits_at : goal.returns-then-from-waits_at
 returns-then-from-waits_at c = search (sees-same, rules)
 
-pub returns-then-eq : goal.returns-then-eq
-returns-then-eq c = search sees-other
+pub returns-else-from-waits_at : goal.returns-else-from-waits_at
+returns-else-from-waits_at c = search (sees-other, rules)
 
 pub returns-then-locks-x-eq0 : goal.returns-then-locks-x-eq0
 returns-then-locks-x-eq0 c =
@@ -16,8 +17,8 @@ returns-then-locks-x-eq0 c =
       | then-locks-x-eq0-via-else-locks-x-eq0+then-locks-x w ↦ search (lock-own, rules)
     ]
 
-pub returns-then-eq-2 : goal.returns-then-eq-2
-returns-then-eq-2 c = search (lock_taken, rules)
+pub returns-else-locks-x : goal.returns-else-locks-x
+returns-else-locks-x c = search (lock_taken, rules)
 
-pub returns : goal.returns
-returns c = search (no_access, rules)
+pub returns-in_default : goal.returns-in_default
+returns-in_default c = search (no_access, kind_other c.in_default.not-Read, kind_other c.in_default.not-Acquire, rules)
