@@ -11,7 +11,7 @@ ghost use Rattle.format.specs.Layout.{Placed, file_of};
 ghost use Rattle.judging.specs.Judged.{refusal_of};
 ghost use Rattle.judging.specs.Walk.{ThreadSets, Ready, InPlace, effect_of};
 
-use limits::{Event, Locks, Recording, Refusal};
+use limits::{Event, Kind, Locks, Recording, Refusal};
 
 // What the events so far say of the threads: which have an event, which are forked, which are joined. Each is a set as in `bits`.
 #[derive(Clone, Copy)]
@@ -36,10 +36,10 @@ fn self_or_second(ev: &[u8], k: usize, threads: Threads) -> bool
 {
     let e = format::event_at(ev, k);
     let own = e.thread.number as usize;
-    if e.kind == Event::FORK {
+    if e.kind == Kind::Fork.number() {
         return e.object == own || bits::contains(threads.forked, e.object);
     }
-    e.kind == Event::JOIN && e.object == own
+    e.kind == Kind::Join.number() && e.object == own
 }
 
 // Is event k a fork of a thread that has an event?
@@ -48,7 +48,7 @@ fn already_begun(ev: &[u8], k: usize, threads: Threads) -> bool
     ensures { result ≡ (eqb (kind_of (trace_in ev.now) k) fork && is_begun (trace_in ev.now) (before k) (object_of (trace_in ev.now) k)) }
 {
     let e = format::event_at(ev, k);
-    e.kind == Event::FORK && bits::contains(threads.begun, e.object)
+    e.kind == Kind::Fork.number() && bits::contains(threads.begun, e.object)
 }
 
 // Is event k of a joined thread?
@@ -68,14 +68,14 @@ fn with_event(ev: &[u8], k: usize, threads: Threads) -> Threads
 {
     let e = format::event_at(ev, k);
     let begun = bits::include(threads.begun, e.thread.number);
-    if e.kind == Event::FORK {
+    if e.kind == Kind::Fork.number() {
         return Threads {
             begun,
             forked: bits::include(threads.forked, e.object as u8),
             ..threads
         };
     }
-    if e.kind == Event::JOIN {
+    if e.kind == Kind::Join.number() {
         return Threads {
             begun,
             joined: bits::include(threads.joined, e.object as u8),
@@ -96,7 +96,7 @@ fn lock_effect(ev: &[u8], k: usize, locks: &Locks) -> Result<Option<Hold>, Refus
     let own = e.thread.number + 1;
     let held = locks.holder[e.object];
     let deep = locks.depth[e.object];
-    if e.kind == Event::ACQUIRE {
+    if e.kind == Kind::Acquire.number() {
         // its holder may acquire it again, one level deeper
         if held == 0 || held == own {
             return Ok(Some(Hold {
@@ -106,7 +106,7 @@ fn lock_effect(ev: &[u8], k: usize, locks: &Locks) -> Result<Option<Hold>, Refus
         }
         return Err(Refusal::LockHeld(number));
     }
-    if e.kind == Event::RELEASE {
+    if e.kind == Kind::Release.number() {
         if held != own {
             return Err(Refusal::NotHolder(number));
         }

@@ -14,7 +14,7 @@ ghost use Rattle.opening.specs.Filling.{Columns, Turn, Stepped, Filled, Built};
 ghost use Rattle.opening.specs.Knows.{LastEvents, Tails, LastWrites, Forks, Depths, NextEnds, LastTaken, access_began};
 ghost use Rattle.opening.specs.Opening.{Opens};
 
-use limits::{Event, Refusal, Thread};
+use limits::{Event, Kind, Refusal, Thread};
 
 // Word c of event k, where it is the event's own: its thread and its kind, a byte each, or its object.
 #[tactic(auto, using(crate::proofs::FillLaws::own_first, crate::proofs::FillLaws::own_second, crate::proofs::FillLaws::own_object))]
@@ -101,14 +101,13 @@ fn put_observed(table: &mut [u16], k: usize, last: &mut [u16; Event::OBJECTS])
     ensures { Stepped LastWrites 3 k (k + 1) table.old table.new last.new }
 {
     let cell = table::object_place(table, k);
-    let kind = table::kind_at(table, k);
-    if kind == Event::READ {
-        table::set_word(table, k, table::WAITS, last[cell]);
-        return;
-    }
-    table::set_word(table, k, table::WAITS, 0);
-    if kind == Event::WRITE {
-        last[cell] = k as u16;
+    match table::kind_of(table, k) {
+        Kind::Read => table::set_word(table, k, table::WAITS, last[cell]),
+        Kind::Write => {
+            table::set_word(table, k, table::WAITS, 0);
+            last[cell] = k as u16;
+        }
+        _ => table::set_word(table, k, table::WAITS, 0),
     }
 }
 
@@ -132,12 +131,13 @@ impl<'a> Pass for Waits<'a> {
 
     // A join is linked to the last event of the joined thread.
     fn put(&mut self, table: &mut [u16], k: usize) {
-        if table::kind_at(table, k) != Event::JOIN {
-            put_observed(table, k, &mut self.last);
-            return;
+        match table::kind_of(table, k) {
+            Kind::Join => {
+                let child = table::child_place(table, k);
+                table::set_word(table, k, table::WAITS, self.tails[child]);
+            }
+            _ => put_observed(table, k, &mut self.last),
         }
-        let child = table::child_place(table, k);
-        table::set_word(table, k, table::WAITS, self.tails[child]);
     }
 }
 
@@ -159,19 +159,18 @@ impl Pass for Depth {
     // An acquire or release has how deep its lock is held before it. An acquire deepens the hold, a release undoes one level.
     fn put(&mut self, table: &mut [u16], k: usize) {
         let lock = table::object_place(table, k);
-        let kind = table::kind_at(table, k);
         let deep = self.depth[lock];
-        if kind == Event::ACQUIRE {
-            table::set_word(table, k, table::DEPTH, deep);
-            self.depth[lock] = deep + 1;
-            return;
+        match table::kind_of(table, k) {
+            Kind::Acquire => {
+                table::set_word(table, k, table::DEPTH, deep);
+                self.depth[lock] = deep + 1;
+            }
+            Kind::Release => {
+                table::set_word(table, k, table::DEPTH, deep);
+                self.depth[lock] = deep - 1;
+            }
+            _ => table::set_word(table, k, table::DEPTH, 0),
         }
-        if kind == Event::RELEASE {
-            table::set_word(table, k, table::DEPTH, deep);
-            self.depth[lock] = deep - 1;
-            return;
-        }
-        table::set_word(table, k, table::DEPTH, 0);
     }
 }
 
@@ -181,7 +180,7 @@ fn begins(table: &[u16], k: usize) -> bool
     requires { Columns (trace table.now) 5 table.now × Valid (trace table.now) k }
     ensures { result ≡ is_outermost (trace table.now) k }
 {
-    if table::kind_at(table, k) != Event::ACQUIRE {
+    if table::kind_of(table, k) != Kind::Acquire {
         return false;
     }
     table::word(table, k, table::DEPTH) == 0
@@ -193,7 +192,7 @@ fn ends(table: &[u16], k: usize) -> bool
     requires { Columns (trace table.now) 5 table.now × Valid (trace table.now) k }
     ensures { result ≡ is_last (trace table.now) k }
 {
-    if table::kind_at(table, k) != Event::RELEASE {
+    if table::kind_of(table, k) != Kind::Release {
         return false;
     }
     table::word(table, k, table::DEPTH) <= 1
@@ -235,14 +234,11 @@ fn access_began(table: &[u16], k: usize) -> u16
     requires { Columns (trace table.now) 6 table.now × Valid (trace table.now) k }
     ensures { result ≡ access_began (trace table.now) k }
 {
-    let kind = table::kind_at(table, k);
-    if kind == Event::WRITE {
-        return k as u16;
+    match table::kind_of(table, k) {
+        Kind::Write => k as u16,
+        Kind::Read => table::word(table, k, table::WAITS) as u16,
+        _ => 0,
     }
-    if kind == Event::READ {
-        return table::word(table, k, table::WAITS) as u16;
-    }
-    0
 }
 
 // Where each event's interval begins.
@@ -294,13 +290,14 @@ impl Pass for Forked {
     // Event k is linked to the fork of its thread; a fork is that of the forked thread from then on.
     fn put(&mut self, table: &mut [u16], k: usize) {
         let thread = table::thread_place(table, k);
-        if table::kind_at(table, k) == Event::FORK {
-            let child = table::child_place(table, k);
-            table::set_word(table, k, table::FORKED, self.forks[thread]);
-            self.forks[child] = k as u16;
-            return;
+        match table::kind_of(table, k) {
+            Kind::Fork => {
+                let child = table::child_place(table, k);
+                table::set_word(table, k, table::FORKED, self.forks[thread]);
+                self.forks[child] = k as u16;
+            }
+            _ => table::set_word(table, k, table::FORKED, self.forks[thread]),
         }
-        table::set_word(table, k, table::FORKED, self.forks[thread]);
     }
 }
 
