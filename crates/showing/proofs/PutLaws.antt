@@ -6,15 +6,17 @@ use mathlib.Core.Path.{◌≡◌}
 use mathlib.Core.List.{List, [], ◌∷◌, ◌++◌, append_assoc, append-nil}
 use lib.ListN.{length, get_or, take}
 use lib.Seq.{take-suc, take_all}
-use borrow.Author.Tests.{eq-eqb, ne_eqb}
+use borrow.Author.Tests.{eq-eqb}
 use mir.Syntax.{w8}
 use mir.Val.{Fits}
+use Rattle.limits.specs.Kinds.{kind_number}
+use Rattle.limits.specs.declared.Kind.{Kind}
 use Rattle.appending.specs.Decimal.{decimal, spaced}
 use Rattle.appending.specs.Appended.{Appends, AppendsShort}
 use Rattle.appending.proofs.DecimalLaws.{decimal_few}
 use Rattle.appending.proofs.AppendLaws.{appends_nothing, appends_then}
 use Rattle.format.specs.Bytes.{trace_in}
-use Rattle.wording.specs.Lines.{note_word, kind_word, event_line}
+use Rattle.wording.specs.Lines.{note_word, event_line}
 use Rattle.showing.specs.Shown.{text_from}
 use Rattle.showing.specs.Pieces.{note_byte, byte_width, note_bytes, notes_text, spaced_kind, event_text, event_text_at, events_text, event_line_bytes, EventsLent}
 use Rattle.showing.proofs.LineLaws.{bytes_append, no_notes, some_notes, word_few, events-next}
@@ -60,16 +62,8 @@ module _ {preamble mid : List ℕ} {p : ℕ} where
 
 -- ---- the line of an event
 
-module _ (k : ℕ) {at : ℕ} {out out' : List ℕ} {r : ℕ} where
-  pub kind_is : (j : ℕ) → k ≡ j → Appends (spaced_kind j) at out out' r → AppendsShort 8 (spaced_kind k) at out out' r
-  kind_is j e a = record { appends = rw e a; short = let h = word_few j in let f = a.ends in omega arith }
-
-  pub kind_last : (k ≡ 1 → ⊥) → (k ≡ 2 → ⊥) → (k ≡ 3 → ⊥) → (k ≡ 4 → ⊥) → (k ≡ 5 → ⊥) → Appends (spaced_kind 6) at out out' r → AppendsShort 8 (spaced_kind k) at out out' r
-  unfolding kind_word
-  kind_last n₁ n₂ n₃ n₄ n₅ a = record {
-    appends = rw (ne_eqb k 1 n₁, ne_eqb k 2 n₂, ne_eqb k 3 n₃, ne_eqb k 4 n₄, ne_eqb k 5 n₅) a;
-    short = let f = a.ends in omega arith;
-  }
+pub kind_put : {k j : Kind} → k ≡ j → {at : ℕ} {out out' : List ℕ} {r : ℕ} → Appends (spaced_kind (kind_number j)) at out out' r → AppendsShort 8 (spaced_kind (kind_number k)) at out out' r
+kind_put {j = j} e a = record { appends = rw e a; short = let h = word_few (kind_number j) in let f = a.ends in omega arith }
 
 module _ (n : ℕ) (fits : Fits w8 n) (at : ℕ) (out : List ℕ) where
   pub thread_room : at + 3 ≤ length out → at + length (decimal n) ≤ length out

@@ -2,6 +2,7 @@
 #![tactic(auto)]
 
 ghost use Rattle.std.specs.Prelude.{◌≡◌, ◌+◌, ◌*◌, ◌≤◌, length};
+ghost use Rattle.limits.specs.Kinds.{kind_number};
 ghost use Rattle.format.specs.Bytes.{trace_in};
 ghost use Rattle.appending.specs.Decimal.{decimal};
 ghost use Rattle.appending.specs.Appended.{Appends, AppendsShort};
@@ -11,7 +12,7 @@ ghost use Rattle.showing.specs.Pieces.{note_byte, byte_width, notes_text, spaced
 use appending::{put_byte, put_decimal, put_word};
 use composing::TEXT_BYTES;
 use format::NoteByte;
-use limits::{Event, Recording, Refusal};
+use limits::{Kind, Recording, Refusal};
 
 // ---- the notes
 
@@ -53,24 +54,25 @@ fn put_thread(out: &mut [u8], at: usize, thread: u8) -> usize
 }
 
 // A kind's word after a space.
-fn put_kind(out: &mut [u8], at: usize, kind: u8) -> usize
+#[tactic(auto, using(crate::proofs::PutLaws::kind_put), unfolding(wording::specs::Lines::kind_word))]
+fn put_kind(out: &mut [u8], at: usize, kind: Kind) -> usize
     requires { at + 8 ≤ length out.old }
-    ensures { AppendsShort 8 (spaced_kind kind) at out.old out.new result }
+    ensures { AppendsShort 8 (spaced_kind (kind_number kind)) at out.old out.new result }
 {
     match kind {
-        Event::READ => put_word(out, at, b" read"),
-        Event::WRITE => put_word(out, at, b" write"),
-        Event::ACQUIRE => put_word(out, at, b" acquire"),
-        Event::RELEASE => put_word(out, at, b" release"),
-        Event::FORK => put_word(out, at, b" fork"),
-        _ => put_word(out, at, b" join"),
+        Kind::Read => put_word(out, at, b" read"),
+        Kind::Write => put_word(out, at, b" write"),
+        Kind::Acquire => put_word(out, at, b" acquire"),
+        Kind::Release => put_word(out, at, b" release"),
+        Kind::Fork => put_word(out, at, b" fork"),
+        Kind::Join => put_word(out, at, b" join"),
     }
 }
 
 // An event's line.
-fn put_line(out: &mut [u8], at: usize, thread: u8, kind: u8, object: u16) -> usize
+fn put_line(out: &mut [u8], at: usize, thread: u8, kind: Kind, object: u16) -> usize
     requires { at + event_line_bytes ≤ length out.old }
-    ensures { AppendsShort event_line_bytes (event_text (record { thread = thread; kind = kind; object = object })) at out.old out.new result }
+    ensures { AppendsShort event_line_bytes (event_text (record { thread = thread; kind = kind_number kind; object = object })) at out.old out.new result }
 {
     let first = put_thread(out, at, thread);
     let second = put_kind(out, first, kind);
@@ -85,7 +87,7 @@ fn put_event(out: &mut [u8], at: usize, ev: &[u8], k: usize) -> usize
     ensures { AppendsShort event_line_bytes (event_text_at ev.now k) at out.old out.new result }
 {
     let thread = format::thread_at(ev, k);
-    let kind = format::kind_at(ev, k);
+    let kind = Kind::try_from(format::kind_at(ev, k)).unwrap();
     put_line(out, at, thread, kind, format::object_at(ev, k) as u16)
 }
 
