@@ -12,6 +12,9 @@ use lib.Seq.{take_at}
 use lib.Dec.{eqb}
 use Rattle.model.proofs.Tests.{by_cases, clash}
 use Rattle.model.specs.Trace.{Event, read, write, acquire, release, fork, join}
+use Rattle.limits.specs.Kinds.{kind_number}
+use Rattle.limits.specs.declared.Kind.{Kind}
+use Rattle.limits.specs.declared.Kind.TheVariants.{Read, Write, Acquire, Release, Fork, Join}
 use Rattle.appending.specs.Decimal.{decimal, value_from, InDecimal}
 use Rattle.appending.proofs.DecimalLaws.{decimal_value, decimal_in}
 use Rattle.wording.specs.Lines.{read_word, write_word, acquire_word, release_word, fork_word, join_word, kind_word, note_line, IsNote, event_line, IsEvent, Reads, note, event, bad}
@@ -43,16 +46,35 @@ each_word P pr pw pa pe pf pj k =
 pub word-other : {w v : List ℕ} {a : Bool} → Decides a (w ≡ v) → a ≡ false → w ≢ v
 word-other f n e = clash (f.1 e) n
 
-pub kind_other : (w : List ℕ) → w ≢ read_word → w ≢ write_word → w ≢ acquire_word → w ≢ release_word → w ≢ fork_word → w ≢ join_word → ReadsKind w None
-kind_other w nr nw na ne nf nj = no_kind (λ k least most. each_word (λ v. w ≢ v) nr nw na ne nf nj k)
+pub no_word : (w : List ℕ) → w ≢ read_word → w ≢ write_word → w ≢ acquire_word → w ≢ release_word → w ≢ fork_word → w ≢ join_word → ReadsKind w None
+no_word w nr nw na ne nf nj = no_kind (λ k. each_word (λ v. w ≢ v) nr nw na ne nf nj (kind_number k))
 
-pub read_kind : {s : List ℕ} {r : Option ℕ} → ReadsKind s r → (k : ℕ) → r ≡ Some k → (read ≤ k) × (k ≤ join) × (s ≡ kind_word k)
-read_kind (kind {k = j} l m e) k q = let z = same_Some j k q in (omega arith, omega arith, rw z at e)
+pub read_kind : {s : List ℕ} {r : Option Kind} → ReadsKind s r → (k : Kind) → r ≡ Some k → s ≡ kind_word (kind_number k)
+read_kind (kind {k = j} e) k q = let z = same_Some j k q in rw z at e
 read_kind (no_kind f) k q = absurd (none-some k q)
 
-pub read-no_kind : {s : List ℕ} {r : Option ℕ} → ReadsKind s r → r ≡ None → (j : ℕ) → read ≤ j → j ≤ join → s ≢ kind_word j
-read-no_kind (kind {k} l m e) z = absurd (none-some k (sym z))
+pub read-no_kind : {s : List ℕ} {r : Option Kind} → ReadsKind s r → r ≡ None → (k : Kind) → s ≢ kind_word (kind_number k)
+read-no_kind (kind {k} e) z = absurd (none-some k (sym z))
 read-no_kind (no_kind f) z = f
+
+-- a kind's number is from the first to the last, and each of these is that of a kind
+pub kind_within : (k : Kind) → (read ≤ kind_number k) × (kind_number k ≤ join)
+kind_within Read = (omega arith, omega arith)
+kind_within Write = (omega arith, omega arith)
+kind_within Acquire = (omega arith, omega arith)
+kind_within Release = (omega arith, omega arith)
+kind_within Fork = (omega arith, omega arith)
+kind_within Join = (omega arith, omega arith)
+
+pub within_kind : (n : ℕ) → read ≤ n → n ≤ join → (k : Kind) × (n ≡ kind_number k)
+within_kind zero l m = absurd (omega arith)
+within_kind (suc zero) l m = (Read, refl)
+within_kind (suc (suc zero)) l m = (Write, refl)
+within_kind (suc (suc (suc zero))) l m = (Acquire, refl)
+within_kind (suc (suc (suc (suc zero)))) l m = (Release, refl)
+within_kind (suc (suc (suc (suc (suc zero))))) l m = (Fork, refl)
+within_kind (suc (suc (suc (suc (suc (suc zero)))))) l m = (Join, refl)
+within_kind (suc (suc (suc (suc (suc (suc (suc n))))))) l m = absurd (omega arith)
 
 -- no word has a space
 pub word-whole : (k : ℕ) → first_at 32 (kind_word k) ≡ length (kind_word k)
@@ -95,29 +117,29 @@ same_number m n e = sym (decimal_value m) ∙ ap (value_from 0) e ∙ decimal_va
 
 module _ (t : ℕ) (s : List ℕ) (i : ℕ) (at-space : i ≡ first_at 32 s) where
   pub action_short : i ≡ length s → ReadsAction t s None
-  action_short e = no_action (λ k o a. let w = space_within s i at-space (kind_word k) (decimal o) (word-whole k) a.these in omega arith)
+  action_short e = no_action (λ k o a. let w = space_within s i at-space (kind_word (kind_number k)) (decimal o) (word-whole (kind_number k)) a.these in omega arith)
 
-  module _ (v : Option ℕ) (x : ReadsKind (take i s) v) where
+  module _ (v : Option Kind) (x : ReadsKind (take i s) v) where
     pub action_kind : v ≡ None → ReadsAction t s None
-    action_kind z = no_action (λ j o a. read-no_kind x z j a.least a.most (before_space s i at-space (kind_word j) (decimal o) (word-whole j) a.these))
+    action_kind z = no_action (λ j o a. read-no_kind x z j (before_space s i at-space (kind_word (kind_number j)) (decimal o) (word-whole (kind_number j)) a.these))
 
-    module _ (k : ℕ) (known : v ≡ Some k) (n : Option ℕ) (y : ReadsNumber (from (i + 1) s) n) where
+    module _ (k : Kind) (known : v ≡ Some k) (n : Option ℕ) (y : ReadsNumber (from (i + 1) s) n) where
       pub action_number : n ≡ None → ReadsAction t s None
-      action_number z = no_action (λ j o a. read_absent y z o a.object_fits (from-drop (i + 1) s ∙ after_space s i at-space (kind_word j) (decimal o) (word-whole j) a.these))
+      action_number z = no_action (λ j o a. read_absent y z o a.object_fits (from-drop (i + 1) s ∙ after_space s i at-space (kind_word (kind_number j)) (decimal o) (word-whole (kind_number j)) a.these))
 
       pub action_good : (i ≡ length s → ⊥) → i ≤ length s → (o : ℕ) → n ≡ Some o → ReadsAction t s (Some (EventOf t k o))
       action_good ne h o e =
           let r = read_kind x k known in
           let v = read_value y o e in
           let p = first_split 32 s i at-space (omega arith) in
-          action (record { least = r.0; most = r.1; object_fits = v.0; these = p ∙ (rw (r.2, ← from-drop (i + 1) s, v.1)) })
+          action (record { object_fits = v.0; these = p ∙ (rw (r, ← from-drop (i + 1) s, v.1)) })
 
 -- what an answer says
 module _ {t : ℕ} {s : List ℕ} where
-  action_means : {r : Option Line} → ReadsAction t s r → (p : List ℕ) → p ≡ decimal t → t < 256 → (line : List ℕ) → line ≡ p ++ (32 ∷ s) → ((e : Event) → IsEvent line e → (decimal e.thread ≡ p) × IsAction s e.kind e.object) → ReadsEvent line r
+  action_means : {r : Option Line} → ReadsAction t s r → (p : List ℕ) → p ≡ decimal t → t < 256 → (line : List ℕ) → line ≡ p ++ (32 ∷ s) → ((e : Event) → IsEvent line e → (k : Kind) × IsAction s k e.object) → ReadsEvent line r
   unfolding event_line
-  action_means (action {k} {o} a) p e h line q back = is_event (record { in_range = record { thread = h; least = a.least; most = a.most; object = a.object_fits }; these = q ∙ rw (e, a.these) })
-  action_means (no_action f) p e h line q back = no-event (λ e i. f e.kind e.object (back e i).1)
+  action_means (action {k} {o} a) p e h line q back = let w = kind_within k in is_event (record { in_range = record { thread = h; least = w.0; most = w.1; object = a.object_fits }; these = q ∙ rw (e, a.these) })
+  action_means (no_action f) p e h line q back = no-event (λ e i. let b = back e i in f b.0 e.object b.1)
 
 -- ---- an event line
 
@@ -134,15 +156,12 @@ module _ (line : List ℕ) (i : ℕ) (at-space : i ≡ first_at 32 line) where
     unfolding event_line
     event_thread = before_space line i at-space (decimal e.thread) (kind_word e.kind ++ (32 ∷ decimal e.object)) (decimal-whole e.thread) g.these
 
-    event_action : IsAction (drop (i + 1) line) e.kind e.object
+    event_action : (k : Kind) × IsAction (drop (i + 1) line) k e.object
     unfolding event_line
     event_action =
-        record {
-          least = g.in_range.least;
-          most = g.in_range.most;
-          object_fits = g.in_range.object;
-          these = after_space line i at-space (decimal e.thread) (kind_word e.kind ++ (32 ∷ decimal e.object)) (decimal-whole e.thread) g.these;
-        }
+        let k = within_kind e.kind g.in_range.least g.in_range.most in
+        let a = after_space line i at-space (decimal e.thread) (kind_word e.kind ++ (32 ∷ decimal e.object)) (decimal-whole e.thread) g.these in
+        (k.0, record { object_fits = g.in_range.object; these = rw (← k.1) a })
 
   module _ (n : Option ℕ) (y : ReadsNumber (take i line) n) where
     pub event_number_lem : n ≡ None → ReadsEvent line None
@@ -162,7 +181,7 @@ module _ (line : List ℕ) (i : ℕ) (at-space : i ≡ first_at 32 line) where
       event_read ne h u same l r a =
           let v = read_value y t is in
           let b : ReadsAction t (drop (i + 1) line) r = rw (same, from-drop (i + 1) line) at a in
-          action_means b (take i line) v.1 (omega arith) line (first_split 32 line i at-space (omega arith)) (λ e g. (sym (event_thread e g), event_action e g))
+          action_means b (take i line) v.1 (omega arith) line (first_split 32 line i at-space (omega arith)) event_action
 
 -- ---- a line
 
@@ -197,7 +216,7 @@ module _ {line : List ℕ} where
   reads_note (event {t} {k} {o} i) e = let z = same_Some (EventOf t k o) Note e in let o : ◌≡◌ {A = ℕ} 0 1 = cc in absurd (omega arith)
   reads_note (bad f g) e = absurd (none-some Note e)
 
-  pub reads_event : {r : Option Line} → Reads line r → (t k o : ℕ) → r ≡ Some (EventOf t k o) → IsEvent line (record { thread = t; kind = k; object = o })
+  pub reads_event : {r : Option Line} → Reads line r → (t : ℕ) (k : Kind) (o : ℕ) → r ≡ Some (EventOf t k o) → IsEvent line (record { thread = t; kind = kind_number k; object = o })
   reads_event (note n) t k o e = let z = same_Some Note (EventOf t k o) e in let o : ◌≡◌ {A = ℕ} 0 1 = cc in absurd (omega arith)
   reads_event (event {t = a} {k = b} {o = c} i) t k o e =
       let z = same_Some (EventOf a b c) (EventOf t k o) e in

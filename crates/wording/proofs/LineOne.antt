@@ -8,12 +8,13 @@ use borrow.Author.Tests.{eqb-true}
 use Rattle.model.specs.Trace.{Event, read, join}
 use Rattle.model.specs.Lists.{◌∈◌, up_to, keep, nearest}
 use Rattle.model.proofs.Lists.{mem_keep, up_to_mem}
+use Rattle.limits.specs.Kinds.{kind_number}
+use Rattle.limits.proofs.KindLaws.{kind_one}
 use Rattle.appending.specs.Decimal.{decimal}
 use Rattle.wording.specs.Lines.{kind_word, event_line, InRange, Reads, note, event, bad}
 use Rattle.wording.specs.Reasons.{same}
-use Rattle.std.specs.Prelude.{Option, Some}
+use Rattle.std.specs.Prelude.{Option}
 use Rattle.wording.specs.declared.Line.{Line}
-use Rattle.wording.specs.declared.Line.TheVariants.{Event as EventOf}
 use Rattle.wording.proofs.NumberLaws.{decimal-whole}
 use Rattle.wording.proofs.LineLaws.{word-whole, space_one, same_number, event_no_note}
 
@@ -48,13 +49,16 @@ event_one e f r s q =
 
 pub line_one : {line : List ℕ} {r s : Option Line} → Reads line r → Reads line s → r ≡ s
 line_one (note n) (note m) = refl
-line_one (note n) (event {t} {k} {o} i) = absurd (event_no_note (record { thread = t; kind = k; object = o }) i n)
+line_one (note n) (event {t} {k} {o} i) = absurd (event_no_note (record { thread = t; kind = kind_number k; object = o }) i n)
 line_one (note n) (bad f g) = absurd (f n)
-line_one (event {t} {k} {o} i) (note n) = absurd (event_no_note (record { thread = t; kind = k; object = o }) i n)
+line_one (event {t} {k} {o} i) (note n) = absurd (event_no_note (record { thread = t; kind = kind_number k; object = o }) i n)
 line_one (event {t = t} {k = k} {o = o} i) (event {t = t'} {k = k'} {o = o'} j) =
-    let e = event_one (record { thread = t; kind = k; object = o }) (record { thread = t'; kind = k'; object = o' }) i.in_range j.in_range (sym i.these ∙ j.these) in
-    ap (λ (e : Event). Some (EventOf e.thread e.kind e.object)) e
-line_one (event {t} {k} {o} i) (bad f g) = absurd (g (record { thread = t; kind = k; object = o }) i)
+    let e = event_one (record { thread = t; kind = kind_number k; object = o }) (record { thread = t'; kind = kind_number k'; object = o' }) i.in_range j.in_range (sym i.these ∙ j.these) in
+    let x : t ≡ t' = ap (λ (e : Event). e.thread) e in
+    let y : k ≡ k' = kind_one k k' (ap (λ (e : Event). e.kind) e) in
+    let z : o ≡ o' = ap (λ (e : Event). e.object) e in
+    rw (x, y, z)
+line_one (event {t} {k} {o} i) (bad f g) = absurd (g (record { thread = t; kind = kind_number k; object = o }) i)
 line_one (bad f g) (note n) = absurd (f n)
-line_one (bad f g) (event {t} {k} {o} i) = absurd (g (record { thread = t; kind = k; object = o }) i)
+line_one (bad f g) (event {t} {k} {o} i) = absurd (g (record { thread = t; kind = kind_number k; object = o }) i)
 line_one (bad f g) (bad h i) = refl

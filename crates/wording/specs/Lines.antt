@@ -1,6 +1,8 @@
 -- The lines of a text that a recording is made of, as bytes, and what reading one gives.
 use Rattle.std.specs.Prelude.{ℕ, ◌≤◌, ◌<◌, ◌≡◌, Bool, false, cond, List, [], ◌∷◌, ◌++◌, eqb, Option, Some, None}
 use Rattle.model.specs.Trace.{Event, read, write, acquire, release, fork, join}
+use Rattle.limits.specs.Kinds.{kind_number}
+use Rattle.limits.specs.declared.Kind.{Kind}
 use Rattle.format.specs.Readable.{Readable}
 use Rattle.appending.specs.Decimal.{decimal}
 use Rattle.wording.specs.declared.Line.{Line}
@@ -87,5 +89,5 @@ is_comment (b ∷ l) = eqb b 35
 -- what each answer means: a note line, the line of this event, neither
 pub data Reads (line : List ℕ) : Option Line → Type 0 where
   note : IsNote line → Reads line (Some Note)
-  event : {t k o : ℕ} → IsEvent line (record { thread = t; kind = k; object = o }) → Reads line (Some (EventOf t k o))
+  event : {t : ℕ} {k : Kind} {o : ℕ} → IsEvent line (record { thread = t; kind = kind_number k; object = o }) → Reads line (Some (EventOf t k o))
   bad : ¬ IsNote line → ((e : Event) → ¬ IsEvent line e) → Reads line None

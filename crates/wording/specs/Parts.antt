@@ -1,6 +1,8 @@
 -- What the parts of a line give.
-use Rattle.std.specs.Prelude.{ℕ, zero, suc, ◌+◌, ◌-◌, ◌*◌, ◌≤◌, ◌<◌, ◌≡◌, ◌≢◌, Bool, true, false, cond, List, [], ◌∷◌, ◌++◌, eqb, ltb, Option, Some, None}
-use Rattle.model.specs.Trace.{Event, read, join}
+use Rattle.std.specs.Prelude.{ℕ, zero, suc, ◌+◌, ◌-◌, ◌*◌, ◌<◌, ◌≡◌, ◌≢◌, Bool, true, false, cond, List, [], ◌∷◌, ◌++◌, eqb, ltb, Option, Some, None}
+use Rattle.model.specs.Trace.{Event}
+use Rattle.limits.specs.Kinds.{kind_number}
+use Rattle.limits.specs.declared.Kind.{Kind}
 use Rattle.appending.specs.Decimal.{decimal}
 use Rattle.wording.specs.Lines.{kind_word, IsNote, IsEvent}
 use Rattle.wording.specs.declared.Line.{Line}
@@ -31,23 +33,21 @@ pub data ReadsNumber (s : List ℕ) : Option ℕ → Type 0 where
   absent : ((n : ℕ) → n < 65536 → s ≢ decimal n) → ReadsNumber s None
 
 -- the word of this kind, or of none
-pub data ReadsKind (s : List ℕ) : Option ℕ → Type 0 where
-  kind : {k : ℕ} → read ≤ k → k ≤ join → s ≡ kind_word k → ReadsKind s (Some k)
-  no_kind : ((k : ℕ) → read ≤ k → k ≤ join → s ≢ kind_word k) → ReadsKind s None
+pub data ReadsKind (s : List ℕ) : Option Kind → Type 0 where
+  kind : {k : Kind} → s ≡ kind_word (kind_number k) → ReadsKind s (Some k)
+  no_kind : ((k : Kind) → s ≢ kind_word (kind_number k)) → ReadsKind s None
 
 -- an event line from its kind on
-pub record IsAction (s : List ℕ) (k o : ℕ) : Type 0 where
-  pub least : read ≤ k
-  pub most : k ≤ join
+pub record IsAction (s : List ℕ) (k : Kind) (o : ℕ) : Type 0 where
   pub object_fits : o < 65536
-  pub these : s ≡ kind_word k ++ (32 ∷ decimal o)
+  pub these : s ≡ kind_word (kind_number k) ++ (32 ∷ decimal o)
 
 -- what is there, after the thread t
 pub data ReadsAction (t : ℕ) (s : List ℕ) : Option Line → Type 0 where
-  action : {k o : ℕ} → IsAction s k o → ReadsAction t s (Some (EventOf t k o))
-  no_action : ((k o : ℕ) → ¬ IsAction s k o) → ReadsAction t s None
+  action : {k : Kind} {o : ℕ} → IsAction s k o → ReadsAction t s (Some (EventOf t k o))
+  no_action : ((k : Kind) (o : ℕ) → ¬ IsAction s k o) → ReadsAction t s None
 
 -- the line of this event, or of none
 pub data ReadsEvent (line : List ℕ) : Option Line → Type 0 where
-  is_event : {t k o : ℕ} → IsEvent line (record { thread = t; kind = k; object = o }) → ReadsEvent line (Some (EventOf t k o))
+  is_event : {t : ℕ} {k : Kind} {o : ℕ} → IsEvent line (record { thread = t; kind = kind_number k; object = o }) → ReadsEvent line (Some (EventOf t k o))
   no-event : ((e : Event) → ¬ IsEvent line e) → ReadsEvent line None

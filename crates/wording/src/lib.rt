@@ -6,7 +6,7 @@ ghost use Rattle.wording.specs.Lines.{Reads};
 ghost use Rattle.wording.specs.Parts.{SaysNote, first_at, digits_from, ReadsNumber, ReadsKind, ReadsAction, ReadsEvent};
 ghost use Rattle.wording.specs.Reasons.{has, begins_note, all_digits, leads_zero, number_reason, action_reason, word_reason, note_reason, reason_of, in_words};
 
-use limits::Event;
+use limits::Kind;
 use std::fmt;
 
 // The bytes of a note line before its text: the word and a space.
@@ -19,7 +19,7 @@ pub const COMMENT: u8 = b'#';
 #[derive(Clone, Copy, PartialEq, Eq, Debug)]
 pub enum Line {
     Note,
-    Event { thread: u8, kind: u8, object: u16 },
+    Event { thread: u8, kind: Kind, object: u16 },
 }
 
 // Why a line is bad: the reasons, in the order in which they are looked for.
@@ -115,26 +115,26 @@ fn read_number(s: &[u8]) -> Option<u16>
 }
 
 // The kind of a word.
-fn read_kind(word: &[u8]) -> Option<u8>
+fn read_kind(word: &[u8]) -> Option<Kind>
     ensures { ReadsKind word.now result }
 {
     if word == b"read".as_slice() {
-        return Some(Event::READ);
+        return Some(Kind::Read);
     }
     if word == b"write".as_slice() {
-        return Some(Event::WRITE);
+        return Some(Kind::Write);
     }
     if word == b"acquire".as_slice() {
-        return Some(Event::ACQUIRE);
+        return Some(Kind::Acquire);
     }
     if word == b"release".as_slice() {
-        return Some(Event::RELEASE);
+        return Some(Kind::Release);
     }
     if word == b"fork".as_slice() {
-        return Some(Event::FORK);
+        return Some(Kind::Fork);
     }
     if word == b"join".as_slice() {
-        return Some(Event::JOIN);
+        return Some(Kind::Join);
     }
     None
 }
