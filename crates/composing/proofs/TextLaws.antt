@@ -22,6 +22,8 @@ use Rattle.wording.specs.Reasons.{reason_of}
 use Rattle.std.specs.Prelude.{Option, Some, None, Ok, Err}
 use Rattle.std.proofs.lemmas.Option.{none-some, same_Some}
 use Rattle.wording.specs.declared.Line.{Line}
+use Rattle.limits.specs.Kinds.{kind_number}
+use Rattle.limits.specs.declared.Kind.{Kind}
 use Rattle.wording.specs.declared.Line.TheVariants.{Note, Event as EventOf}
 use Rattle.composing.specs.declared.BadLine.{BadLine}
 use Rattle.composing.specs.declared.Events.{Events}
@@ -157,9 +159,9 @@ module _ {text : List ℕ} {from : ℕ} {th₀ th ki₀ ki ob₀ ob : List ℕ} 
     pub events_note : a ≡ Some Note → ReadsEvents text from th₀ th ki₀ ki ob₀ ob (record { count = n; stop = Some at })
     events_note e = stopped r within l.splits (λ f i. event_no_note f i (reads_note x e)) refl
 
-    pub events_on : ListsLent text from th₀ ki₀ ob₀ → (t k o : ℕ) → a ≡ Some (EventOf t k o) → {next : ℕ} → NextSaid text end next
-        → EventsRead text from th₀ (set th n t) ki₀ (set ki n k) ob₀ (set ob n o) (n + 1) next
-    events_on g t k o e {next} y = go (record { thread = t; kind = k; object = o }) (reads_event x t k o e)
+    pub events_on : ListsLent text from th₀ ki₀ ob₀ → (t : ℕ) (k : Kind) (n' : ℕ) → n' ≡ kind_number k → (o : ℕ) → a ≡ Some (EventOf t k o) → {next : ℕ} → NextSaid text end next
+        → EventsRead text from th₀ (set th n t) ki₀ (set ki n n') ob₀ (set ob n o) (n + 1) next
+    events_on g t k n' is o e {next} y = rw is (go (record { thread = t; kind = kind_number k; object = o }) (reads_event x t k o e))
       where
         go : (v : Event) → IsEvent (take (end - at) (drop at text)) v → EventsRead text from th₀ (set th n v.thread) ki₀ (set ki n v.kind) ob₀ (set ob n v.object) (n + 1) next
         go v i =

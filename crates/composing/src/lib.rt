@@ -173,7 +173,7 @@ fn read_events(
             };
         };
         threads[count] = thread;
-        kinds[count] = kind;
+        kinds[count] = kind.number();
         objects[count] = object;
         count += 1;
         at = next_said(text, end);
