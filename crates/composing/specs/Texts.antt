@@ -10,7 +10,7 @@ use Rattle.wording.specs.Reasons.{reason_of}
 use Rattle.composing.specs.declared.Parts.{Parts}
 use Rattle.composing.specs.declared.BadLine.{BadLine}
 
--- the most bytes of a text: eight for each byte of the longest file. Six are enough for its text (showing: text-short); the others are for comments
+-- the most bytes of a text: eight for each byte of the longest file. Six are enough for its text (showing: text_short); the others are for comments
 abbrev pub text_bytes : ℕ
 text_bytes = 8 * max_bytes
 

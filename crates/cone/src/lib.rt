@@ -3,10 +3,10 @@
 // From a top the events of its thread are followed back, and each brings in its own: that raises tops. This stops as soon as a root is in the cone.
 #![tactic(auto)]
 
-ghost use Rattle.std.specs.Prelude.{◌≡◌, ◌+◌, ◌≤◌, length, get_or, replicate, true};
+ghost use Rattle.std.specs.Prelude.{◌≡◌, ◌+◌, ◌≤◌, get_or, replicate, true};
 ghost use Rattle.model.specs.Trace.{Valid, thread_of};
 ghost use Rattle.model.specs.Lists.{all_but};
-ghost use Rattle.model.specs.Good.{Good, max_thread};
+ghost use Rattle.model.specs.Good.{max_thread};
 ghost use Rattle.table.specs.Judged.{events};
 ghost use Rattle.cone.specs.Tops.{Rooted, Told, Beyond};
 ghost use Rattle.cone.specs.Following.{has_root, Bars, Within, Coming, Raising, Answer, Raised, BringsIn, Follows, Going, Caught, Round, Behind, IsRoot, BeforeRoot, Started, Seeded};

@@ -23,7 +23,7 @@ use Rattle.model.proofs.Tests.{by_cases, false-does, not_on, limit_small}
 use Rattle.model.proofs.Lists.{numbers_split}
 use Rattle.limits.specs.declared.Refusal.{Refusal}
 use Rattle.judging.specs.Judged.{event_refusal, refusal_in}
-use Rattle.judging.specs.Walk.{LockTable, ThreadSets, Ready, locking, refused_or, effect_of}
+use Rattle.judging.specs.Walk.{LockTable, ThreadSets, locking, refused_or, effect_of}
 use Rattle.limits.specs.Limits.{no_locks}
 use Rattle.limits.specs.declared.Locks.{Locks}
 use Rattle.judging.specs.declared.Threads.{Threads}
@@ -134,9 +134,6 @@ judging_start t locks few e f =
 module _ {t : Trace} {k : ℕ} {locks : Locks} {threads : Threads} (p : Judging t k locks threads) (h : k ≤ length t) where
   pub judging_valid : Valid t k
   judging_valid = record { positive = p.positive; bounded = h }
-
-  pub judging_ready : Ready t k locks.holder locks.depth
-  judging_ready = record { valid = judging_valid; few = p.few; locks = p.tables }
 
   more_clean : event_refusal t k ≡ none → (j : ℕ) → 1 ≤ j → j < k + 1 → event_refusal t j ≡ none
   more_clean e j a b = by_cases (eqb j k) (λ q. rw (eqb-true j k q) e) (λ q. let ne = eqb-false j k q in p.clean j a (omega arith))

@@ -11,7 +11,7 @@ ghost use Rattle.format.specs.Layout.{Placed, file_of};
 ghost use Rattle.judging.specs.Judged.{refusal_of};
 ghost use Rattle.judging.specs.Walk.{ThreadSets, Ready, InPlace, effect_of};
 
-use limits::{Event, Kind, Locks, Recording, Refusal};
+use limits::{Kind, Locks, Recording, Refusal};
 
 // What the events so far say of the threads: which have an event, which are forked, which are joined. Each is a set as in `bits`.
 #[derive(Clone, Copy)]

@@ -79,7 +79,7 @@ module _ {k : ℕ} {s last : List ℕ} (w : Turn LastWrites 3 k s last) (q : ℕ
       pub observed-other : (q ≡ write → ⊥) → Stepped LastWrites 3 k (k + 1) s s' last
       observed-other nw = record { set = no_link; knows = no_write (λ z. nw (eq ∙ z)) }
 
--- ---- `put_depth`
+-- ---- `Depth::put`
 
 module _ {k : ℕ} {s list : List ℕ} (w : Turn Depths 4 k s list) (x : ℕ) (ex : x ≡ object_of (trace s) k) (d : ℕ) (ed : d ≡ get_or list x 0) where
   abbrev t₄ : Trace
@@ -210,7 +210,7 @@ module _ {k : ℕ} {s : List ℕ} (p : Columns (trace s) 6 s) (v : Valid (trace 
     unfolding access_began
     began-none nr = rw (ne_eqb (kind_of (trace s) k) write (λ z. nw (eq ∙ z)), ne_eqb (kind_of (trace s) k) read (λ z. nr (eq ∙ z)))
 
--- ---- `put_began`
+-- ---- `Began::put`
 
 access_is : (s : Trace) (k : ℕ) → is_outermost s k ≡ false → is_last s k ≡ false → access_began s k ≡ began s k
 unfolding began access_began

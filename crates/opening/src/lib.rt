@@ -2,10 +2,10 @@
 // column. The first two are the events' own, from the bytes; every further pass reads the table alone.
 #![tactic(auto)]
 
-ghost use Rattle.std.specs.Prelude.{ℕ, List, ◌≡◌, suc, ◌+◌, ◌-◌, ◌≤◌, ◌<◌, length, replicate, ◌≢◌};
+ghost use Rattle.std.specs.Prelude.{ℕ, List, ◌≡◌, suc, ◌+◌, ◌-◌, ◌≤◌, ◌<◌, length, ◌≢◌};
 ghost use Rattle.std.proofs.Common.{rules};
 ghost use Rattle.model.specs.Trace.{Trace, Valid, join, kind_of};
-ghost use Rattle.model.specs.Good.{Good, max_thread};
+ghost use Rattle.model.specs.Good.{Good};
 ghost use Rattle.model.specs.Sections.{is_outermost, is_last};
 ghost use Rattle.format.specs.Bytes.{trace_in};
 ghost use Rattle.judging.specs.Judged.{events_of, refusal_of};

@@ -1,10 +1,9 @@
 -- The ways through the functions that write the report.
 use Prim.Native.Nat.{ℕ, ◌+◌, ◌-◌, ◌≤◌, ◌<◌}
-use native.Mathlib.Nat.{sub-zero}
 use native.Mathlib.Omega.{arith}
 use mathlib.Core.Path.{◌≡◌, refl, sym, ◌∙◌, ap, subst}
 use mathlib.Core.Option.{Option, none, some}
-use mathlib.Core.List.{List, [], ◌∷◌, ◌++◌, append_assoc}
+use mathlib.Core.List.{List, ◌∷◌, ◌++◌, append_assoc}
 use lib.ListN.{length, take, drop, length-append, length-drop}
 use lib.Seq.{length-take-le}
 use mir.Val.{Fits}
@@ -27,7 +26,7 @@ use Rattle.std.specs.Prelude.{Option as RustOption, None, Some, Ok, Err}
 use Rattle.races.proofs.AnswerLaws.{handed-none, handed-some}
 use Rattle.lines.specs.Lines.{race_line, races_line, refused_line}
 use Rattle.appending.specs.Appended.{Appends}
-use Rattle.appending.proofs.AppendLaws.{appends_nothing, appends_then}
+use Rattle.appending.proofs.AppendLaws.{appends_then}
 use Rattle.lines.specs.Room.{line_bytes, Room, RaceRoom}
 use Rattle.report.specs.Report.{first_line}
 use Rattle.report.specs.Rest.{Line, after, max_races, behind_first, races_from, lines_from, lines_at, fill}
@@ -148,18 +147,6 @@ pub record Filling (table : Table) (p : Position) (list₀ out₀ list out : Lis
   pub left : length (lines_from (events table) q) ≤ length (lines_from (events table) p)
   pub list_long : length list ≡ length list₀
   pub out_long : length out ≡ length out₀
-
-pub filling_start : {p : Position} {table : Table} {list out : List ℕ} → Writing table p list 0 out → Filling table p list out list out p 0
-filling_start {out = out} g = record {
-  writing = g;
-  put = [];
-  puts = appends_nothing 0 out (omega arith);
-  bytes = rw (sub-zero (length out));
-  stops = rw (sub-zero (length out));
-  left = omega arith;
-  list_long = refl;
-  out_long = refl;
-}
 
 -- what was put is what fills the buffer
 filled : {p : Position} {table : Table} {list₀ out₀ list out : List ℕ} {q : Position} {m : ℕ} → Filling table p list₀ out₀ list out q m

@@ -15,7 +15,7 @@ pub struct Table<'a> {
 
 impl Table<'_> {
     ghost use Rattle.std.specs.Prelude.{◌≡◌, ◌≤◌, ◌<◌, length};
-    ghost use Rattle.model.specs.Trace.{Valid, fork, thread_of, kind_of, object_of};
+    ghost use Rattle.model.specs.Trace.{Valid, thread_of, kind_of, object_of};
     ghost use Rattle.model.specs.Lists.{threads};
     ghost use Rattle.model.specs.Good.{max_thread, max_object};
     ghost use Rattle.limits.specs.Kinds.{kind_number};

@@ -1,4 +1,4 @@
-// The static library for other languages: the six questions, the writer and the report, with a number in place of an answer's enum.
+// The static library for other languages: the six questions, the writer and the report, with a number in place of an answer.
 #![tactic(auto)]
 
 ghost use Rattle.std.specs.Prelude.{◌≡◌};

@@ -1,4 +1,4 @@
-// The text that a program reads and writes: the numbers of a line, and pairs and lists on standard output.
+// The text that a program reads and writes: the numbers of a line, and a list of numbers on standard output.
 #![tactic(auto)]
 
 ghost use Rattle.std.specs.Prelude.{ℕ, ◌≡◌, ◌≢◌, ◌≤◌, ◌<◌, min, length, slice_index};
