@@ -10,7 +10,7 @@ use mathlib.Core.List.{List, [], ◌∷◌, ◌++◌}
 use lib.ListN.{length, take, drop, length-append}
 use lib.Seq.{take_at}
 use lib.Dec.{eqb}
-use Rattle.model.proofs.Tests.{by_cases, clash}
+use Rattle.model.proofs.Tests.{by_cases}
 use Rattle.model.specs.Trace.{Event, read, write, acquire, release, fork, join}
 use Rattle.limits.specs.Kinds.{kind_number}
 use Rattle.limits.specs.declared.Kind.{Kind}
@@ -20,7 +20,7 @@ use Rattle.appending.proofs.DecimalLaws.{decimal_value, decimal_in}
 use Rattle.wording.specs.Lines.{read_word, write_word, acquire_word, release_word, fork_word, join_word, kind_word, note_line, IsNote, event_line, IsEvent, Reads, note, event, bad}
 use Rattle.wording.specs.Parts.{SaysNote, first_at, ReadsNumber, ReadsKind, kind, no_kind, IsAction, ReadsAction, action, no_action, ReadsEvent, is_event, no-event}
 use Rattle.wording.specs.declared.Line.{Line}
-use Rattle.std.specs.Prelude.{Option, Some, None, Decides}
+use Rattle.std.specs.Prelude.{Option, Some, None}
 use Rattle.std.proofs.lemmas.Option.{none-some, same_Some}
 use Rattle.wording.specs.declared.Line.TheVariants.{Note, Event as EventOf}
 use Rattle.wording.proofs.FirstLaws.{from, from-drop, first-append, first_split}
@@ -42,9 +42,6 @@ each_word P pr pw pa pe pf pj k =
     by_cases (eqb k release) (λ d. rw (a, b, c, d) pe)
     (λ d.
     by_cases (eqb k fork) (λ e. rw (a, b, c, d, e) pf) (λ e. rw (a, b, c, d, e) pj)))))
-
-pub word-other : {w v : List ℕ} {a : Bool} → Decides a (w ≡ v) → a ≡ false → w ≢ v
-word-other f n e = clash (f.1 e) n
 
 pub no_word : (w : List ℕ) → w ≢ read_word → w ≢ write_word → w ≢ acquire_word → w ≢ release_word → w ≢ fork_word → w ≢ join_word → ReadsKind w None
 no_word w nr nw na ne nf nj = no_kind (λ k. each_word (λ v. w ≢ v) nr nw na ne nf nj (kind_number k))
