@@ -20,7 +20,6 @@ impl Table<'_> {
     ghost use Rattle.model.specs.Good.{max_thread, max_object};
     ghost use Rattle.limits.specs.Kinds.{kind_number};
     ghost use Rattle.decision.specs.Decision.{is_conflicting};
-    ghost use Rattle.table.specs.Conflicts.{Lower};
     ghost use Rattle.table.specs.Links.{previous, waits_for, release_of, began, fork_of};
     ghost use Rattle.table.specs.Table.{columns, column};
     ghost use Rattle.table.specs.Judged.{events};
@@ -120,36 +119,17 @@ impl Table<'_> {
         self.column_at(k, crate::FORKED)
     }
 
-    // Are two events of the trace, lower first, a conflicting pair: of one cell, of different threads, both accesses, at least one a write?
-    #[tactic(auto, using(crate::proofs::ConflictLaws::other_cell, crate::proofs::ConflictLaws::same_thread, crate::proofs::ConflictLaws::by_kinds))]
-    fn conflicting_in(&self, a: usize, b: usize) -> bool
-        requires { Lower (events self.now) a b }
-        ensures { result ≡ is_conflicting (events self.now) a b }
-    {
-        self.object_place(a) == self.object_place(b)
-            && self.thread_at(a) != self.thread_at(b)
-            && crate::accesses(self.kind_at(a), self.kind_at(b))
-    }
-
     // Are a and b a conflicting pair? Any two numbers may be asked.
-    #[tactic(auto, using(crate::proofs::ConflictLaws::below, crate::proofs::ConflictLaws::not_lower, crate::proofs::ConflictLaws::above))]
     pub fn conflicting(&self, a: u16, b: u16) -> bool
         ensures { result ≡ is_conflicting (events self.now) a b }
     {
-        let lower = usize::from(a);
-        let higher = usize::from(b);
-        0 < lower && lower < higher && higher <= self.count() && self.conflicting_in(lower, higher)
+        crate::conflicting(self.words, a, b)
     }
 
-    // How many different threads have an event: the ones of a mask. (From the last event back, as the definition of a trace's threads goes.)
-    #[tactic(auto, using(crate::proofs::ThreadLaws::seen_start, crate::proofs::ThreadLaws::seen_valid, crate::proofs::ThreadLaws::seen_small, crate::proofs::ThreadLaws::seen_more, crate::proofs::ThreadLaws::seen_end))]
+    // How many different threads have an event.
     pub fn threads(&self) -> u32
         ensures { result ≡ length (threads (events self.now)) }
     {
-        let mut seen = 0u16;
-        for k in (1..self.count() + 1).rev() {
-            seen = bits::include(seen, self.thread_at(k));
-        }
-        u16::count_ones(seen)
+        crate::threads(self.words)
     }
 }

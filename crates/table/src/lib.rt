@@ -5,7 +5,9 @@ ghost use Rattle.std.specs.Prelude.{◌≡◌, ◌≤◌, ◌<◌, length};
 ghost use Rattle.model.specs.Trace.{Valid, fork, thread_of, kind_of, object_of, does};
 ghost use Rattle.model.specs.Good.{Good, max_thread, max_object};
 ghost use Rattle.limits.specs.Kinds.{kind_number};
-ghost use Rattle.table.specs.Conflicts.{accesses};
+ghost use Rattle.model.specs.Lists.{threads};
+ghost use Rattle.decision.specs.Decision.{is_conflicting};
+ghost use Rattle.table.specs.Conflicts.{Lower, accesses};
 ghost use Rattle.table.specs.Table.{words, word, trace, Place, with_word};
 
 mod judged;
@@ -144,13 +146,34 @@ pub fn is_event(table: &[u16], k: usize, kind: u8, object: usize) -> bool
 
 // Are events of these kinds accesses, at least one a write?
 #[tactic(auto, unfolding(crate::specs::Conflicts::accesses))]
-fn accesses(c: Kind, d: Kind) -> bool
-    ensures { result ≡ accesses (kind_number c) (kind_number d) }
+fn accesses(c: u8, d: u8) -> bool
+    ensures { result ≡ accesses c d }
 {
     matches!(
-        (c, d),
-        (Kind::Write, Kind::Read | Kind::Write) | (Kind::Read, Kind::Write)
+        (Kind::try_from(c), Kind::try_from(d)),
+        (Ok(Kind::Write), Ok(Kind::Read | Kind::Write)) | (Ok(Kind::Read), Ok(Kind::Write))
     )
+}
+
+// Are two events of the trace, lower first, a conflicting pair: of one cell, of different threads, both accesses, at least one a write?
+#[tactic(auto, using(crate::proofs::ConflictLaws::other_cell, crate::proofs::ConflictLaws::same_thread, crate::proofs::ConflictLaws::by_kinds))]
+fn conflicting_in(table: &[u16], a: usize, b: usize) -> bool
+    requires { Lower (trace table.now) a b }
+    ensures { result ≡ is_conflicting (trace table.now) a b }
+{
+    object_at(table, a) == object_at(table, b)
+        && thread_at(table, a) != thread_at(table, b)
+        && accesses(kind_at(table, a), kind_at(table, b))
+}
+
+// Are a and b a conflicting pair? Any two numbers may be asked.
+#[tactic(auto, using(crate::proofs::ConflictLaws::below, crate::proofs::ConflictLaws::not_lower, crate::proofs::ConflictLaws::above))]
+pub fn conflicting(table: &[u16], a: u16, b: u16) -> bool
+    ensures { result ≡ is_conflicting (trace table.now) a b }
+{
+    let lower = usize::from(a);
+    let higher = usize::from(b);
+    0 < lower && lower < higher && higher <= count(table) && conflicting_in(table, lower, higher)
 }
 
 // Sets word c of event k's row.
@@ -159,4 +182,17 @@ pub fn set_word(table: &mut [u16], k: usize, c: usize, x: u16)
     ensures { table.new ≡ with_word table.old k c x }
 {
     table[WORDS * (k - 1) + c] = x;
+}
+
+// How many different threads have an event: the ones of a mask. (From the last event back, as the definition of a trace's threads goes.)
+#[tactic(auto, using(crate::proofs::ThreadLaws::seen_start, crate::proofs::ThreadLaws::seen_valid, crate::proofs::ThreadLaws::seen_small, crate::proofs::ThreadLaws::seen_more, crate::proofs::ThreadLaws::seen_end))]
+pub fn threads(table: &[u16]) -> u32
+    requires { Good (trace table.now) }
+    ensures { result ≡ length (threads (trace table.now)) }
+{
+    let mut seen = 0u16;
+    for k in (1..count(table) + 1).rev() {
+        seen = bits::include(seen, thread_at(table, k));
+    }
+    u16::count_ones(seen)
 }

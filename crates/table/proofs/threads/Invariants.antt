@@ -1,6 +1,6 @@
 use Rattle.table.specs.Table.{trace}
 use Rattle.table.proofs.ThreadLaws.{Seen}
-use Rattle.table.proofs.judged.Table.threads.Given as goal
+use Rattle.table.proofs.threads.Given as goal
 
 abbrev pub invariant-loop-k : goal.invariant-loop-k
-invariant-loop-k l = Seen (trace l.self.words.now) l.k l.seen
+invariant-loop-k l = Seen (trace l.table) l.k l.seen
