@@ -28,7 +28,8 @@ fn verdict<R: Print>(rt: &R, file: &[u8], a: u16, b: u16) -> io::Result<()> {
         Ok(None) => print!(rt; "not reported"),
         Ok(Some(n)) => {
             print!(rt; "race {a} {b} witness")?;
-            text::list(rt, &list, n)
+            text::list(rt, &list, n);
+            Ok(())
         }
     }
 }
