@@ -15,6 +15,7 @@ const LINE_BYTES: usize = appending::EVENT_WIDTH * NUMBERS;
 // Such a line, and one byte more than a recording may have.
 const INPUT_BYTES: usize = LINE_BYTES + Recording::MAX_BYTES + 1;
 
+// Each program has this for itself: a public function for all could promise nothing.
 fn say<R: Eprint>(rt: &R, message: &str) {
     let _ = eprintln!(rt; "ask: {message}");
 }

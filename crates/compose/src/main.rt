@@ -52,7 +52,8 @@ impl fmt::Display for Failure {
     }
 }
 
-// Says a message on standard error. There is no one to tell where that fails.
+// Says a message on standard error. There is no one to tell where that fails. Each program has this for itself, and `put` too: a public function
+// for all could promise nothing.
 fn say<R: Eprint, M: fmt::Display + Drop>(rt: &R, message: M) {
     let _ = eprintln!(rt; "compose: {message}");
 }
@@ -88,6 +89,7 @@ fn write_parts(
     requires { notes ≤ text_bytes }
     ensures { WritesParts text.now notes preamble.now threads.now kinds.now objects.now file.old file.new result }
 {
+    // A `match`, since the closure of a `map_err` would have to require what `line_about` does.
     match writing::write_file(preamble, threads, kinds, objects, file) {
         Ok(n) => Ok(n),
         Err(refusal) => Err(Failure::Refused {

@@ -28,6 +28,8 @@ pub struct Hold {
     pub depth: u16,
 }
 
+// A file's kinds are numbers until they are judged, so each is compared with the number of a `Kind`.
+
 // Is event k a fork or join of its own thread, or a second fork of one thread?
 #[tactic(auto, unfolding(decision::specs::Refusals::is_self, decision::specs::Refusals::is_second))]
 fn self_or_second(ev: &[u8], k: usize, threads: Threads) -> bool

@@ -78,7 +78,7 @@ impl TryFrom<u8> for Kind {
     }
 }
 
-// An event as a file has it: its thread, the number of its kind, and its object: the cell of a read or write, the lock of an acquire or release, or the thread that is forked or joined.
+// An event as a file has it: its thread, the number of its kind (which may be that of none, so it is no `Kind` yet), and its object: the cell of a read or write, the lock of an acquire or release, or the thread that is forked or joined.
 #[derive(Clone, Copy)]
 pub struct Event {
     pub thread: Thread,

@@ -16,8 +16,9 @@ const INPUT_BYTES: usize = Recording::MAX_BYTES + 1;
 // The report is written in blocks of some lines: eight of the longest.
 const BLOCK_BYTES: usize = 8 * lines::LINE_BYTES;
 
+// Each program has this for itself: a public function for all could promise nothing.
 fn say<R: Eprint>(rt: &R, message: &str) {
-    let _ = rt.eprint(message);
+    let _ = eprintln!(rt; "nightly: {message}");
 }
 
 // The report of a good file, block by block.
@@ -58,13 +59,13 @@ fn write_report<R: Print>(rt: &R, file: &[u8]) -> io::Result<()> {
 fn main(rt: HostRuntime) {
     let mut file = [0u8; INPUT_BYTES];
     let Ok(n) = input::read(&mut rt.stdin(), &mut file) else {
-        say(&rt, "nightly: cannot read the recording\n");
+        say(&rt, "cannot read the recording");
         return;
     };
     if let Err(e) = write_report(&rt, &file[..n]) {
         // A reader who has left has had what it wanted, so nothing is said of that.
         if e.kind() != ErrorKind::BrokenPipe {
-            say(&rt, "nightly: cannot write the report\n");
+            say(&rt, "cannot write the report");
         }
     }
 }

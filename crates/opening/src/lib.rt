@@ -180,10 +180,7 @@ fn begins(table: &[u16], k: usize) -> bool
     requires { Columns (trace table.now) 5 table.now × Valid (trace table.now) k }
     ensures { result ≡ is_outermost (trace table.now) k }
 {
-    if table::kind_of(table, k) != Kind::Acquire {
-        return false;
-    }
-    table::word(table, k, table::DEPTH) == 0
+    table::kind_of(table, k) == Kind::Acquire && table::word(table, k, table::DEPTH) == 0
 }
 
 // Does it end one: is it a last release?
@@ -192,10 +189,7 @@ fn ends(table: &[u16], k: usize) -> bool
     requires { Columns (trace table.now) 5 table.now × Valid (trace table.now) k }
     ensures { result ≡ is_last (trace table.now) k }
 {
-    if table::kind_of(table, k) != Kind::Release {
-        return false;
-    }
-    table::word(table, k, table::DEPTH) <= 1
+    table::kind_of(table, k) == Kind::Release && table::word(table, k, table::DEPTH) <= 1
 }
 
 // Backwards: a last release is linked to itself, and is the next end of its lock's sections from then on; an outermost acquire is linked to the next end.

@@ -18,7 +18,7 @@ use table::Table;
 const MAX_RACES: u32 = (Recording::MAX_EVENTS * Recording::MAX_EVENTS) as u32;
 
 // A position in the report of a good file: what comes next, 0 for the first line and 1 for a race's or the last; the two numbers after which
-// the next race comes, and how many races stand before it.
+// the next race comes, and how many races stand before it. These are the four words of a place, which is the C interface.
 #[derive(Clone, Copy)]
 pub struct Position {
     pub next: u32,

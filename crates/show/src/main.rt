@@ -8,6 +8,7 @@ use std::io::ErrorKind;
 // One byte more than a file may have is enough to refuse it.
 const INPUT_BYTES: usize = Recording::MAX_BYTES + 1;
 
+// Each program has this for itself: a public function for all could promise nothing.
 fn say<R: Eprint>(rt: &R, message: &str) {
     let _ = eprintln!(rt; "show: {message}");
 }

@@ -5,14 +5,16 @@ ghost use Rattle.table.specs.Facts.{Linked_prop};
 
 use limits::Kind;
 
-// The words of a table that has the links of all its events, and so those of a good recording. A link is 0 where there is none: the definitions `previous`,
-// `waits_for`, `release_of`, `began` and `fork_of` say so, and a word of the table has room for no more.
+// The words of a table that has the links of all its events, and so those of a good recording.
+// A link is 0 where there is none, as the definitions `previous`, `waits_for`, `release_of`, `began` and `fork_of` have it.
 #[derive(Clone, Copy)]
 pub struct Table<'a> {
     pub words: &'a [u16],
     pub ghost links: { Linked words.now } by { Linked_prop words.now },
 }
 
+// Some methods do what a function of the same name does for a list of words: a table in the making is such a list, and has no links yet.
+// The methods for links differ in the column alone, and have the names of the links.
 impl Table<'_> {
     ghost use Rattle.std.specs.Prelude.{◌≡◌, ◌≤◌, ◌<◌, length};
     ghost use Rattle.model.specs.Trace.{Valid, thread_of, kind_of, object_of};

@@ -3,7 +3,7 @@
 
 ghost use Rattle.std.specs.Prelude.{ℕ, ◌≡◌, ◌≢◌, ◌≤◌, ◌<◌, min, length, slice_index};
 
-// The first place that holds `stop`, or the end.
+// The first place that holds `stop`, or the end. (A `for`: from `position` the search does not find what is said of the places before.)
 fn first(text: &[u8], stop: u8) -> usize
     ensures within { result ≤ length text.now }
     ensures before { (k : ℕ) → k < result → slice_index text.now k ≢ stop }
@@ -44,7 +44,7 @@ fn with_digit(n: usize, c: u8) -> usize {
     n * 10 + digit(c)
 }
 
-// The number that a word stands for, where that fits.
+// The number that a word stands for, and 65535 for every greater one. A byte that is no digit counts as a 0.
 fn short(word: &[u8]) -> u16 {
     let n = word.iter().fold(0, |n, c| with_digit(n, *c));
     u16::try_from(n).unwrap_or(u16::MAX)
@@ -73,7 +73,7 @@ pub fn at_most(n: usize, most: usize) -> usize
     n.min(most)
 }
 
-// The first n numbers of a list, each after a space. Where a write fails, nothing is said of it.
+// The first n numbers of a list, each after a space; all of them where there are fewer, so that no length is asked for. Where a write fails, nothing is said of it.
 pub fn list<P: Print>(out: &P, numbers: &[u16], n: u16) {
     for k in numbers.iter().take(n as usize) {
         let _ = print!(out; " {k}");

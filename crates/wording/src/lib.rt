@@ -114,7 +114,7 @@ fn read_number(s: &[u8]) -> Option<u16>
     read_digits(s)
 }
 
-// The kind of a word.
+// The kind of a word. (Tests one by one: a `match` on the bytes goes byte by byte, and leaves a goal for each.)
 fn read_kind(word: &[u8]) -> Option<Kind>
     ensures { ReadsKind word.now result }
 {
@@ -257,7 +257,7 @@ fn note_reason(line: &[u8]) -> Reason
 pub fn reason_of(line: &[u8]) -> Reason
     ensures { result ≡ reason_of line.now }
 {
-    if line.len() == 0 {
+    if line.is_empty() {
         return Reason::Empty;
     }
     if has(line, b'\r') {
