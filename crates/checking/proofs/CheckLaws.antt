@@ -17,7 +17,6 @@ use Rattle.decision.specs.Check.{is_enabled, place_fault, first_of, fault_from, 
 use Rattle.decision.specs.Decision.{is_conflicting}
 use Rattle.decision.proofs.CheckExact.{clean_step}
 use Rattle.decision.proofs.ListingExact.{conflicting_exactly}
-use Rattle.limits.specs.Limits.{no_locks}
 use Rattle.limits.specs.declared.Refusal.TheVariants.{NotConflicting}
 use Rattle.table.proofs.EntryLaws.{entries_new}
 use Rattle.checking.specs.Passing.{Knows, EnabledTold, FaultTold, KnowsMore, Walked}
@@ -61,10 +60,8 @@ module _ {t : Trace} {list : List ℕ} {i : ℕ} {last writes locks : List ℕ} 
 
 -- ---- the whole list
 
-pub knows_none : (t : Trace) (locks : List ℕ) → locks ≡ no_locks → Knows t [] (replicate (max_thread + 1) 0) (replicate (max_object + 1) 0) locks
-unfolding no_locks
-knows_none t locks e =
-    rw e
+pub knows_none : (t : Trace) → Knows t [] (replicate (max_thread + 1) 0) (replicate (max_object + 1) 0) (replicate (max_object + 1) 0)
+knows_none t =
     record {
       correct = tt;
       threads = entries_new _ max_thread (λ c. refl);

@@ -1,4 +1,4 @@
--- The next event of a thread, what an event waits for, what it does to the lists, and its fault: the ways through `is_next`, `is_ready`, `pass`, `access_fault` and `fault_at`.
+-- The next event of a thread, what an event waits for, what it does to the lists, and its fault: the ways through `is_next`, `is_ready`, `add`, `access_fault` and `fault_at`.
 use Prim.Native.Nat.{ℕ, suc, ◌+◌, ◌≤◌, zero, ◌<◌}
 use native.Mathlib.Omega.{arith}
 use mathlib.Core.Path.{◌≡◌, sym, ◌∙◌, ap, refl}

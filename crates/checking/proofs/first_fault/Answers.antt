@@ -1,10 +1,10 @@
 use Rattle.std.proofs.Common.{rules}
 use Rattle.std.proofs.lemmas.Result.{err_from_is_err_and}
-use Rattle.checking.proofs.CheckLaws.{knows_none, walked_fault, walked_lower, walked_higher, walked_both}
+use Rattle.checking.proofs.CheckLaws.{walked_fault, walked_lower, walked_higher, walked_both}
 use Rattle.checking.proofs.first_fault.Goals as goal
 
 pub walk-requires : goal.walk-requires
-walk-requires c = search (knows_none, rules)
+walk-requires c = search (c.nothing-passed.ensures, rules)
 
 pub returns-in_err-walk : goal.returns-in_err-walk
 returns-in_err-walk c =

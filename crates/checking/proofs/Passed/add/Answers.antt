@@ -1,7 +1,7 @@
 use Rattle.std.proofs.Common.{rules}
 use Rattle.limits.proofs.KindLaws.{kind_other}
 use Rattle.checking.proofs.PassLaws.{pass_write, pass_acquire, pass_last, pass_other}
-use Rattle.checking.proofs.pass.Goals as goal
+use Rattle.checking.proofs.Passed.add.Goals as goal
 
 pub returns-in-Write : goal.returns-in-Write
 returns-in-Write c = search (pass_write, rules)

@@ -1,8 +1,8 @@
 use Rattle.std.proofs.Common.{rules}
 use Rattle.std.proofs.lemmas.Result.{err_from_is_err_and}
 use Rattle.checking.proofs.PassLaws.{number_low, number_high, number_valid, not-next, access_found, not_ready, no_fault}
-use Rattle.checking.proofs.fault_at.Goals as goal
-use Rattle.checking.proofs.fault_at.Goals.{then-at-lt1-via-then-at-lt1, then-at-lt1-via-else-at-lt1+then-count-at}
+use Rattle.checking.proofs.Passed.fault_at.Goals as goal
+use Rattle.checking.proofs.Passed.fault_at.Goals.{then-at-lt1-via-then-at-lt1, then-at-lt1-via-else-at-lt1+then-count-at}
 
 pub returns-then-at-lt1 : goal.returns-then-at-lt1
 returns-then-at-lt1 c =

@@ -1,6 +1,6 @@
 use Rattle.std.proofs.Common.{rules}
 use Rattle.checking.proofs.PassLaws.{next-told}
-use Rattle.checking.proofs.is_next.Goals as goal
+use Rattle.checking.proofs.Passed.is_next.Goals as goal
 
 pub returns : goal.returns
 returns c = search (next-told, rules)

@@ -1,6 +1,6 @@
 use Rattle.std.proofs.Common.{rules}
 use Rattle.checking.proofs.PassLaws.{fork_bounded, waits_bounded, fork_ahead, ready_fork, ready_join}
-use Rattle.checking.proofs.is_ready.Goals as goal
+use Rattle.checking.proofs.Passed.is_ready.Goals as goal
 
 pub has_passed-requires : goal.has_passed-requires
 has_passed-requires c = search (fork_bounded, rules)

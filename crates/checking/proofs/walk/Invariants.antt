@@ -1,6 +1,0 @@
-use Rattle.table.specs.Table.{trace}
-use Rattle.checking.proofs.CheckLaws.{Passing}
-use Rattle.checking.proofs.walk.Given as goal
-
-abbrev pub invariant-loop-k : goal.invariant-loop-k
-invariant-loop-k l = Passing (trace l.table.words.now) l.list l.k-index l.last l.writes l.locks
