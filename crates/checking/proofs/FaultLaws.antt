@@ -24,7 +24,7 @@ numbered LowerNotEnabled = λ e. cc
 numbered HigherNotEnabled = λ e. cc
 
 -- a fault has its number alone
-number_checked : (f : Fault) → checked (number_of f) ≡ Some f
+pub number_checked : (f : Fault) → checked (number_of f) ≡ Some f
 number_checked NoEvent = refl
 number_checked NotNext = refl
 number_checked SeesOtherwise = refl

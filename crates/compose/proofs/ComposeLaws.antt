@@ -2,7 +2,7 @@
 use Prim.Native.Nat.{ℕ, ◌≤◌}
 use native.Mathlib.Omega.{arith}
 use mathlib.Core.Path.{◌≡◌, refl, sym, ◌∙◌, ap}
-use mathlib.Core.Option.{Option as Math_Option, none, some}
+use mathlib.Core.Option.{Option, none, some}
 use mathlib.Core.List.{List}
 use lib.ListN.{length, take, drop, replicate, length-append, length-replicate}
 use Rattle.model.specs.Trace.{Trace, thread_list, kind_list, object_list}
@@ -14,7 +14,7 @@ use Rattle.writing.proofs.ListLaws.{lists_back, lists_even}
 use Rattle.composing.specs.Texts.{text_bytes, lines, joined, Makes, Lent, ReadsText, good, bad_line as bad-text}
 use Rattle.composing.specs.declared.Parts.{Parts}
 use Rattle.composing.specs.declared.BadLine.{BadLine}
-use Rattle.std.specs.Prelude.{Option, Result, Ok, Err}
+use Rattle.std.specs.Prelude.{Option as RustOption, Result, Ok, Err}
 use Rattle.composing.proofs.AnswerLaws.{makes_few}
 use Rattle.writing.proofs.WriteLaws.{true_even, refused_no_bytes}
 use Rattle.writing.specs.Writing.{wrote, hand_refusal, handed, answer_write}
@@ -25,7 +25,7 @@ use Rattle.compose.specs.declared.Failure.TheVariants.{BadLine as Bad, Refused}
 -- ---- the writer's answer
 
 module _ (text : List ℕ) (a : ℕ) (p threads kinds objects file file' : List ℕ) (w : Result ℕ Refusal) (e : (w, file') ≡ answer_write p threads kinds objects file) where
-  pub parts_refused : (r : Refusal) → w ≡ Err r → (n : Option ℕ) → n ≡ line_about a (lines text) (event_of r) → WritesParts text a p threads kinds objects file file' (Err (Refused r n))
+  pub parts_refused : (r : Refusal) → w ≡ Err r → (n : RustOption ℕ) → n ≡ line_about a (lines text) (event_of r) → WritesParts text a p threads kinds objects file file' (Err (Refused r n))
   parts_refused r q n i = not_written i (rw q at e)
 
   pub parts_bytes : (n : ℕ) → w ≡ Ok n → WritesParts text a p threads kinds objects file file' (Ok n)
@@ -72,7 +72,7 @@ module _ {text pre pre' th th' ki ki' ob ob' : List ℕ} where
 
 -- ---- what an answer says
 
-by_refusal : (o : Math_Option Refusal) (s file file' : List ℕ) (n : ℕ) → (Ok n, file') ≡ settled (λ r. (Err r, file)) (wrote s file) o → n ≤ length file'
+by_refusal : (o : Option Refusal) (s file file' : List ℕ) (n : ℕ) → (Ok n, file') ≡ settled (λ r. (Err r, file)) (wrote s file) o → n ≤ length file'
 unfolding in_front
 by_refusal none s file file' n e =
     let p : ◌≡◌ {A = Result ℕ Refusal} (Ok n) (Ok (length s)) = ap (λ (x : Result ℕ Refusal × List ℕ). x.0) e in

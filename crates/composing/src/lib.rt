@@ -10,7 +10,8 @@ use format::NoteByte;
 use limits::Recording;
 use wording::{COMMENT, Line, NOTE_BYTES, Reason};
 
-// The loops over lines go from the place where one begins to where the next does. An iterator over the lines would be no plainer: the place at which a loop stops is what it hands on, and it would be counted beside.
+// The loops over lines go from the place where one begins to where the next does. An iterator over the lines would be no plainer: the place at which
+// a loop stops is what it hands on, and it would be counted beside.
 
 // The most bytes of a text: eight for each byte of the longest file. Six are enough for its text; the others are for comments.
 pub const TEXT_BYTES: usize = 8 * Recording::MAX_BYTES;

@@ -1,7 +1,7 @@
 -- An answer and its number say the same: what a caller reads out of the number is the answer.
 use Prim.Native.Nat.{ℕ, ◌+◌, ◌*◌, ◌/◌, ◌%◌, ◌<◌, ◌≤◌}
 use native.Mathlib.Omega.{arith}
-use mathlib.Core.Path.{◌≡◌, refl}
+use mathlib.Core.Path.{◌≡◌, refl, ap}
 use borrow.Author.Tests.{ne_eqb}
 use Rattle.limits.specs.Refusals.{number_of}
 use Rattle.limits.specs.declared.Refusal.{Refusal}
@@ -11,11 +11,10 @@ use Rattle.questions.specs.declared.Counts.{Counts}
 use Rattle.observing.specs.declared.Observed.{Observed}
 use Rattle.observing.specs.declared.Observed.TheVariants.{Write, Start, NotARead}
 use Rattle.verdicts.specs.declared.Pair.{Pair}
-use Rattle.checking.specs.Faults.{number_of as fault_number}
+use Rattle.checking.proofs.FaultLaws.{number_checked}
 use Rattle.checking.specs.declared.Fault.{Fault}
-use Rattle.checking.specs.declared.Fault.TheVariants.{NoEvent, NotNext, SeesOtherwise, LockHeld as HeldLock, NotReady, LowerNotEnabled, HigherNotEnabled}
 use Rattle.numbers.specs.Numbers.{Parts, packed, unpacked, Small, ReadBack}
-use Rattle.numbers.specs.Packed.{of_refusal, to_refusal, in_case, of_judgement, to_judgement, of_observed, to_observed, of_observations, to_observations, of_finding, to_finding, of_next, to_next, to_fault, of_check, to_check, of_noted, to_noted, of_written, to_written, NumbersExact}
+use Rattle.numbers.specs.Packed.{of_refusal, to_refusal, in_case, of_judgement, to_judgement, of_observed, to_observed, of_observations, to_observations, of_finding, to_finding, of_next, to_next, of_check, to_check, of_noted, to_noted, of_written, to_written, NumbersExact}
 
 -- ---- a number and its parts
 
@@ -97,19 +96,10 @@ next_back (Err r) = rw (passed r 107 (omega arith), passed r 108 (omega arith), 
 next_back (Ok (Some x)) = refl
 next_back (Ok None) = refl
 
-fault_back : (f : Fault) → to_fault (fault_number f) ≡ f
-fault_back NoEvent = refl
-fault_back NotNext = refl
-fault_back SeesOtherwise = refl
-fault_back HeldLock = refl
-fault_back NotReady = refl
-fault_back LowerNotEnabled = refl
-fault_back HigherNotEnabled = refl
-
 check_back : (c : Result (Option Fault) Refusal) → to_check (of_check c) ≡ c
 check_back (Err r) = rw (passed r 109 (omega arith), passed r 110 (omega arith), refusal_back r)
 check_back (Ok None) = refl
-check_back (Ok (Some f)) = rw (fault_back f)
+check_back (Ok (Some f)) = ap Ok (number_checked f)
 
 noted_back : (n : Option ℕ) → to_noted (of_noted n) ≡ n
 noted_back (Some m) = refl

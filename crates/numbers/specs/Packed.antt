@@ -1,6 +1,6 @@
 -- Each answer as a case and two numbers. A refusal's case is the paper's number; all other cases are numbers from 100 on, and no two answers share one.
 -- Beside each the answer that a caller reads out of the parts.
-use Rattle.std.specs.Prelude.{ℕ, ◌-◌, ◌<◌, cond, Option, None, Some, Result, Ok, Err, List, [], ◌∷◌, get_or, eqb}
+use Rattle.std.specs.Prelude.{ℕ, ◌<◌, cond, Option, None, Some, Result, Ok, Err, List, [], ◌∷◌, get_or, eqb}
 use Rattle.limits.specs.Refusals.{number_of, event_of}
 use Rattle.limits.specs.declared.Refusal.{Refusal}
 use Rattle.limits.specs.declared.Refusal.TheVariants.{FileSize, Mark, EventCount, Distance, Kind, Thread, Object, SelfOrSecond, AlreadyBegun, AlreadyJoined, LockHeld, NotHolder, ListShort, NotConflicting, AreaShort, Preamble}
@@ -8,9 +8,8 @@ use Rattle.questions.specs.declared.Counts.{Counts}
 use Rattle.observing.specs.declared.Observed.{Observed}
 use Rattle.observing.specs.declared.Observed.TheVariants.{Write, Start, NotARead}
 use Rattle.verdicts.specs.declared.Pair.{Pair}
-use Rattle.checking.specs.Faults.{number_of as fault_number}
+use Rattle.checking.specs.Faults.{number_of as fault_number, checked}
 use Rattle.checking.specs.declared.Fault.{Fault}
-use Rattle.checking.specs.declared.Fault.TheVariants.{NoEvent, NotNext, SeesOtherwise, LockHeld as HeldLock, NotReady, LowerNotEnabled, HigherNotEnabled}
 use Rattle.numbers.specs.Numbers.{Parts, parts, ReadBack}
 
 -- ---- refusals: the paper's number, and the event's number or 0
@@ -129,17 +128,13 @@ to_next p = in_case race p (Ok (Some (record { lower = p.first; higher = p.secon
 
 -- ---- question 5: the number of the fault
 
--- the faults in the order of their numbers, from 21 on
-abbrev pub to_fault : ℕ → Fault
-to_fault n = get_or (NoEvent ∷ NotNext ∷ SeesOtherwise ∷ HeldLock ∷ LowerNotEnabled ∷ HigherNotEnabled ∷ NotReady ∷ []) (n - 21) NoEvent
-
 abbrev pub of_check : Result (Option Fault) Refusal → Parts
 of_check (Err r) = of_refusal r
 of_check (Ok None) = parts yes 0 0
 of_check (Ok (Some f)) = parts no (fault_number f) 0
 
 abbrev pub to_check : Parts → Result (Option Fault) Refusal
-to_check p = in_case yes p (Ok None) (in_case no p (Ok (Some (to_fault p.first))) (Err (to_refusal p)))
+to_check p = in_case yes p (Ok None) (in_case no p (Ok (checked p.first)) (Err (to_refusal p)))
 
 -- ---- question 6: how many bytes of the file
 
