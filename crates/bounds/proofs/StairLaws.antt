@@ -19,8 +19,7 @@ use Rattle.decision.specs.Stairs.{is_opening, is_alike, is_within, is_bound, is_
 use Rattle.decision.proofs.IntervalTests.{alike_true, true_alike, true_opening}
 use Rattle.decision.proofs.LeastStairs.{least_known, least_closed, least_below, climb-same}
 use Rattle.stairs.specs.Stairs.{at, slot_of, InOthers, Solution, Least, Lists}
-use Rattle.table.specs.declared.judged.Table.{Table}
-use Rattle.table.specs.Judged.{events}
+use Rattle.table.specs.Table.{trace, Linked}
 use Rattle.table.specs.Links.{began}
 use Rattle.table.proofs.BeganFacts.{began-le, began_opening, began_within, within_began, began_thread, began-observed, opening_cases}
 use Rattle.bounds.specs.Parts.{Parts}
@@ -64,9 +63,9 @@ module _ (t : Trace) (g : Good t) where
       (opening_cases t w b))
       (opening_cases t v a))
 
-module _ (s : Table) {m : ℕ} {P Q : List ℕ} (g : Parts (events s) m P Q) where
+module _ (s : List ℕ) (l : Linked s) {m : ℕ} {P Q : List ℕ} (g : Parts (trace s) m P Q) where
   abbrev t : Trace
-  t = events s
+  t = trace s
 
   -- ---- the two lists
 
@@ -85,7 +84,7 @@ module _ (s : Table) {m : ℕ} {P Q : List ℕ} (g : Parts (events s) m P Q) whe
       let ne = eqb-false (began t k) k z in
       let nz = i.begins in
       (g.others_earlier (began t k) k n (record { first = omega arith; less = omega arith; thread = r }), le)))
-      (began_thread t s.links.good.well_formed k v i.begins)
+      (began_thread t l.good.well_formed k v i.begins)
 
   pub parts_lists : Lists t m P Q
   parts_lists = record { moved = g.moved; moved_up = g.moved_up; others = g.others; others_up = g.others_up; begun = begun_in }
@@ -119,7 +118,7 @@ module _ (s : Table) {m : ℕ} {P Q : List ℕ} (g : Parts (events s) m P Q) whe
           let z = mem_any _ Q a.1 in
           let k = z.0 in
           let d = both (is_within t q k) (leb v (h k)) z.2 in
-          let w = s.links.good.well_formed in
+          let w = l.good.well_formed in
           let al = alike_true t v q c.0 in
           let ov = true_opening t v (⊎_elim (λ u. inl u.0) (λ u. inr u.0) al.1) in
           let oq = true_opening t q (⊎_elim (λ u. inl u.1) (λ u. inr u.1) al.1) in
@@ -130,7 +129,7 @@ module _ (s : Table) {m : ℕ} {P Q : List ℕ} (g : Parts (events s) m P Q) whe
           let qos = (g.others q j).positive in
           let r : at ends v ≤ h (began t k) =
           x.apart k z.1 (record { begins = λ u. let n : ⊥ = omega arith in n; thread = rw bk (g.others_thread q j) }) v y.1 (omega arith)
-          (alike_slot t s.links.good v q c.0 ∙ ap (slot_of t) (sym bk)) (leb-true v (h k) d.1) in
+          (alike_slot t l.good v q c.0 ∙ ap (slot_of t) (sym bk)) (leb-true v (h k) d.1) in
           let same : h (began t k) ≡ h q = ap h bk in
           omega arith
 
@@ -169,14 +168,14 @@ module _ (s : Table) {m : ℕ} {P Q : List ℕ} (g : Parts (events s) m P Q) whe
       apart : (k : ℕ) → k ∈ Q → InOthers t m k → (v : ℕ) → v ∈ P → 0 < at ends v → slot_of t v ≡ slot_of t (began t k) → v ≤ h k → at ends v ≤ h (began t k)
       unfolding is_forced is_kept_apart
       apart k n i v x pos sl le =
-          let w = s.links.good.well_formed in
+          let w = l.good.well_formed in
           let d = end_in_lem v x pos in
           let p = at ends v in
           let o = begun_in k n i in
           let vp = (g.moved v x).positive in
           let nz : began t p ≢ 0 = λ z. let q = d.1 in let u : ⊥ = omega arith in u in
           let ov : is_opening t v ≡ true = rw d.1 at (began_opening t p nz) in
-          let al = slot_alike t s.links.good v (began t k) (g.moved v x) (g.others (began t k) o.0) ov (began_opening t k i.begins) sl in
+          let al = slot_alike t l.good v (began t k) (g.moved v x) (g.others (began t k) o.0) ov (began_opening t k i.begins) sl in
           let wp : is_within t v p ≡ true = rw d.1 at (began_within t w p (g.moved p d.0) nz) in
           let wk = began_within t w k (g.others k n) i.begins in
           c p (began t k) d.0 o.0 (or_right (is_bound t P Q p (began t k)) (rw (any_mem _ x (true_both (true_both al wp) (any_mem _ n (true_both wk (le-leb v (h k) le)))))))

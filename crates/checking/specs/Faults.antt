@@ -1,5 +1,5 @@
 -- The faults of a proposed list, each with its number in the paper.
-use Rattle.std.specs.Prelude.{ℕ, cond, eqb, List, [], ◌∷◌, Option, None, Some, Result}
+use Rattle.std.specs.Prelude.{ℕ, zero, suc, cond, eqb, List, [], ◌∷◌, Option, None, Some, Result}
 use Rattle.std.specs.Result.{result_err}
 use Rattle.checking.specs.declared.Fault.{Fault}
 use Rattle.checking.specs.declared.Fault.TheVariants.{NoEvent, NotNext, SeesOtherwise, LockHeld, NotReady, LowerNotEnabled, HigherNotEnabled}
@@ -27,11 +27,12 @@ fault_number r = number_or_zero (result_err r)
 abbrev pub faults : List Fault
 faults = NoEvent ∷ NotNext ∷ SeesOtherwise ∷ LockHeld ∷ LowerNotEnabled ∷ HigherNotEnabled ∷ NotReady ∷ []
 
--- the fault of a list that has number n
-abbrev pub fault_in : List Fault → ℕ → Option Fault
-fault_in [] n = None
-fault_in (f ∷ l) n = cond (eqb n (number_of f)) (Some f) (fault_in l n)
+-- the fault of a list that has number n, and f where none has it
+abbrev pub fault_in : Fault → List Fault → ℕ → Fault
+fault_in f [] n = f
+fault_in f (g ∷ l) n = cond (eqb n (number_of g)) g (fault_in f l n)
 
--- the fault that has number n; 0 is no fault's
+-- the fault that has number n; 0 alone is none, and a number of no fault, which the check never gives, is a fault all the same
 abbrev pub checked : ℕ → Option Fault
-checked n = fault_in faults n
+checked zero = None
+checked (suc n) = Some (fault_in NoEvent faults (suc n))

@@ -9,7 +9,7 @@ ghost use Rattle.model.specs.Lists.{all_but};
 ghost use Rattle.model.specs.Good.{max_thread};
 ghost use Rattle.table.specs.Judged.{events};
 ghost use Rattle.cone.specs.Tops.{Rooted, Told, Beyond};
-ghost use Rattle.cone.specs.Following.{has_root, Bars, Within, Coming, Raising, Answer, Raised, BringsIn, Follows, Going, Caught, Round, Behind, IsRoot, BeforeRoot, Started, Seeded};
+ghost use Rattle.cone.specs.Following.{no_root, has_root, Bars, Within, Coming, Raising, Answer, Raised, BringsIn, Follows, Going, Caught, Round, Behind, IsRoot, BeforeRoot, Started, Seeded};
 ghost use Rattle.cone.specs.Split.{Splits, Moved, Others, is_of, Highest};
 
 use limits::Thread;
@@ -26,17 +26,15 @@ fn place(list: &[u16; Thread::COUNT], c: usize) -> usize
     usize::from(list[c])
 }
 
-// The root of each thread; NO_ROOT where it has none.
-fn bars_of(table: &Table, roots: &[u16]) -> [u16; Thread::COUNT]
-    requires { Rooted table.now roots.now }
-    ensures { Bars (events table.now) roots.now result }
+// Each root is the bar of its thread. The bars are lent: an array that is given back is copied, for each pair of a report.
+fn set_bars(table: &Table, roots: &[u16], bars: &mut [u16; Thread::COUNT])
+    requires { Rooted table.now roots.now × (bars.old ≡ replicate (max_thread + 1) no_root) }
+    ensures { Bars (events table.now) roots.now bars.new }
 {
-    let mut bars = [NO_ROOT; Thread::COUNT];
     for &r in roots {
         let c = table.thread_place(usize::from(r));
         bars[c] = r;
     }
-    bars
 }
 
 // A root is in the cone: the search ends.
@@ -48,7 +46,7 @@ struct RootInside;
 struct Search<'a> {
     table: Table<'a>,
     // The root of each thread; NO_ROOT where it has none.
-    bars: [u16; Thread::COUNT],
+    bars: &'a [u16; Thread::COUNT],
 }
 
 impl Search<'_> {
@@ -56,7 +54,7 @@ impl Search<'_> {
     #[tactic(auto, unfolding(crate::specs::Following::has_root))]
     fn has_root(&self, k: usize) -> bool
         requires { Valid (events self.now.table) k }
-        ensures { result ≡ has_root self.now.bars (thread_of (events self.now.table) k) }
+        ensures { result ≡ has_root self.now.bars.now (thread_of (events self.now.table) k) }
     {
         let c = self.table.thread_place(k);
         self.bars[c] != NO_ROOT
@@ -64,8 +62,8 @@ impl Search<'_> {
 
     // Event k, if it is one, is in the cone: the top of its thread is no lower. A link of the table is 0 where there is no event.
     fn raise(&self, k: usize, tops: &mut [u16; Thread::COUNT]) -> Result<(), RootInside>
-        requires { Raising self.now.table self.now.bars tops.old × Coming (events self.now.table) self.now.bars k }
-        ensures { Answer (events self.now.table) self.now.bars (Raised (events self.now.table) self.now.bars k tops.old tops.new) result }
+        requires { Raising self.now.table self.now.bars.now tops.old × Coming (events self.now.table) self.now.bars.now k }
+        ensures { Answer (events self.now.table) self.now.bars.now (Raised (events self.now.table) self.now.bars.now k tops.old tops.new) result }
     {
         if k < 1 {
             return Ok(());
@@ -74,7 +72,7 @@ impl Search<'_> {
         if k <= place(tops, c) {
             return Ok(());
         }
-        if place(&self.bars, c) <= k {
+        if place(self.bars, c) <= k {
             return Err(RootInside);
         }
         tops[c] = k as u16;
@@ -89,8 +87,8 @@ impl Search<'_> {
         exempt: bool,
         tops: &mut [u16; Thread::COUNT],
     ) -> Result<(), RootInside>
-        requires { Raising self.now.table self.now.bars tops.old × (Within (events self.now.table) self.now.bars k × (exempt ≡ has_root self.now.bars (thread_of (events self.now.table) k))) }
-        ensures { Answer (events self.now.table) self.now.bars (BringsIn (events self.now.table) self.now.bars k tops.old tops.new) result }
+        requires { Raising self.now.table self.now.bars.now tops.old × (Within (events self.now.table) self.now.bars.now k × (exempt ≡ has_root self.now.bars.now (thread_of (events self.now.table) k))) }
+        ensures { Answer (events self.now.table) self.now.bars.now (BringsIn (events self.now.table) self.now.bars.now k tops.old tops.new) result }
     {
         self.raise(self.table.waits_at(k), tops)?;
         if exempt {
@@ -106,8 +104,8 @@ impl Search<'_> {
         to: usize,
         tops: &mut [u16; Thread::COUNT],
     ) -> Result<(), RootInside>
-        requires { Raising self.now.table self.now.bars tops.old × Within (events self.now.table) self.now.bars from }
-        ensures { Answer (events self.now.table) self.now.bars (Follows (events self.now.table) self.now.bars from to tops.old tops.new) result }
+        requires { Raising self.now.table self.now.bars.now tops.old × Within (events self.now.table) self.now.bars.now from }
+        ensures { Answer (events self.now.table) self.now.bars.now (Follows (events self.now.table) self.now.bars.now from to tops.old tops.new) result }
     {
         let exempt = self.has_root(from);
         let mut k = from;
@@ -120,14 +118,16 @@ impl Search<'_> {
     }
 
     // Thread c is followed from its top back to where it was followed before, and its fork is in the cone.
+    // (Inlined: for a call the search would be put into memory, for each pair of a report.)
+    #[inline(always)]
     fn catch_up(
         &self,
         c: usize,
         done: &mut [u16; Thread::COUNT],
         tops: &mut [u16; Thread::COUNT],
     ) -> Result<(), RootInside>
-        requires { Going self.now.table self.now.bars done.old tops.old × (c ≤ max_thread) }
-        ensures { Answer (events self.now.table) self.now.bars (Caught (events self.now.table) self.now.bars c done.old done.new tops.old tops.new) result }
+        requires { Going self.now.table self.now.bars.now done.old tops.old × (c ≤ max_thread) }
+        ensures { Answer (events self.now.table) self.now.bars.now (Caught (events self.now.table) self.now.bars.now c done.old done.new tops.old tops.new) result }
     {
         let from = place(tops, c);
         let to = place(done, c);
@@ -145,8 +145,8 @@ impl Search<'_> {
         done: &mut [u16; Thread::COUNT],
         tops: &mut [u16; Thread::COUNT],
     ) -> Result<(), RootInside>
-        requires { Going self.now.table self.now.bars done.old tops.old }
-        ensures { Answer (events self.now.table) self.now.bars (Round (events self.now.table) self.now.bars (max_thread + 1) done.old done.new tops.old tops.new) result }
+        requires { Going self.now.table self.now.bars.now done.old tops.old }
+        ensures { Answer (events self.now.table) self.now.bars.now (Round (events self.now.table) self.now.bars.now (max_thread + 1) done.old done.new tops.old tops.new) result }
     {
         for c in 0..Thread::COUNT {
             self.catch_up(c, done, tops)?;
@@ -156,8 +156,8 @@ impl Search<'_> {
 
     // What must stand before root r is in the cone: the fork of its thread, and the event before it there (rule i).
     fn before_root(&self, r: usize, tops: &mut [u16; Thread::COUNT]) -> Result<(), RootInside>
-        requires { Raising self.now.table self.now.bars tops.old × IsRoot (events self.now.table) self.now.bars r }
-        ensures { Answer (events self.now.table) self.now.bars (BeforeRoot (events self.now.table) self.now.bars r tops.old tops.new) result }
+        requires { Raising self.now.table self.now.bars.now tops.old × IsRoot (events self.now.table) self.now.bars.now r }
+        ensures { Answer (events self.now.table) self.now.bars.now (BeforeRoot (events self.now.table) self.now.bars.now r tops.old tops.new) result }
     {
         self.raise(self.table.forked_at(r), tops)?;
         self.raise(self.table.previous_at(r), tops)
@@ -170,8 +170,8 @@ impl Search<'_> {
         done: &mut [u16; Thread::COUNT],
         tops: &mut [u16; Thread::COUNT],
     ) -> Result<(), RootInside>
-        requires { Going self.now.table self.now.bars done.old tops.old × IsRoot (events self.now.table) self.now.bars r }
-        ensures { Answer (events self.now.table) self.now.bars (Started (events self.now.table) self.now.bars r done.new tops.old tops.new) result }
+        requires { Going self.now.table self.now.bars.now done.old tops.old × IsRoot (events self.now.table) self.now.bars.now r }
+        ensures { Answer (events self.now.table) self.now.bars.now (Started (events self.now.table) self.now.bars.now r done.new tops.old tops.new) result }
     {
         self.before_root(r, tops)?;
         self.catch_up(self.table.thread_place(r), done, tops)
@@ -184,8 +184,8 @@ impl Search<'_> {
         done: &mut [u16; Thread::COUNT],
         tops: &mut [u16; Thread::COUNT],
     ) -> Result<(), RootInside>
-        requires { Going self.now.table self.now.bars done.old tops.old × Bars (events self.now.table) roots.now self.now.bars }
-        ensures { Answer (events self.now.table) self.now.bars (Seeded (events self.now.table) self.now.bars roots.now 0 done.new tops.new) result }
+        requires { Going self.now.table self.now.bars.now done.old tops.old × Bars (events self.now.table) roots.now self.now.bars.now }
+        ensures { Answer (events self.now.table) self.now.bars.now (Seeded (events self.now.table) self.now.bars.now roots.now 0 done.new tops.new) result }
     {
         for &r in roots.iter().rev() {
             self.start(usize::from(r), done, tops)?;
@@ -195,8 +195,8 @@ impl Search<'_> {
 
     // The whole cone: from the roots, and then in rounds, until no thread is followed less far than its top.
     fn reach(&self, roots: &[u16], tops: &mut [u16; Thread::COUNT]) -> Result<(), RootInside>
-        requires { Rooted self.now.table roots.now × (Bars (events self.now.table) roots.now self.now.bars × (tops.old ≡ replicate (max_thread + 1) 0)) }
-        ensures { Answer (events self.now.table) self.now.bars (Told (events self.now.table) roots.now tops.new true) result }
+        requires { Rooted self.now.table roots.now × (Bars (events self.now.table) roots.now self.now.bars.now × (tops.old ≡ replicate (max_thread + 1) 0)) }
+        ensures { Answer (events self.now.table) self.now.bars.now (Told (events self.now.table) roots.now tops.new true) result }
     {
         let mut done = [0u16; Thread::COUNT];
         self.seed(roots, &mut done, tops)?;
@@ -222,9 +222,11 @@ pub fn outside(table: &Table, roots: &[u16], tops: &mut [u16; Thread::COUNT]) ->
     requires { Rooted table.now roots.now × (tops.old ≡ replicate (max_thread + 1) 0) }
     ensures { Told (events table.now) roots.now tops.new result }
 {
+    let mut bars = [NO_ROOT; Thread::COUNT];
+    set_bars(table, roots, &mut bars);
     let search = Search {
         table: *table,
-        bars: bars_of(table, roots),
+        bars: &bars,
     };
     search.reach(roots, tops).is_ok()
 }

@@ -44,7 +44,8 @@ pub fn readable(s: &[u8]) -> bool
 
 fn read16(s: &[u8], at: usize) -> usize
     requires { at + 2 ≤ length s.now }
-    ensures { result ≡ number16 s.now at }
+    ensures value { result ≡ number16 s.now at }
+    ensures upper_bound { result < 65536 }
 {
     u16::from_le_bytes([s[at], s[at + 1]]) as usize
 }

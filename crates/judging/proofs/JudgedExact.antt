@@ -12,7 +12,7 @@ use Rattle.model.specs.Rows.{First, Quiet, said, rows_of}
 use Rattle.model.specs.Refusals.{event_rows, trace_rows}
 use Rattle.decision.specs.Refusals.{event_tests}
 use Rattle.model.proofs.RowsExact.{none_quiet, quiet_none, quiet_both, both_quiet, tests_first, append-first, first_exactly}
-use Rattle.decision.proofs.RefusalsExact.{GoodEvent, event_tested, quiet_good, good_exactly}
+use Rattle.decision.proofs.RefusalsExact.{GoodEvent, event_tested, good_quiet, quiet_good, good_exactly}
 use Rattle.limits.specs.Refusals.{paper, event_refusals}
 use Rattle.limits.proofs.PaperLaws.{event_numbers, paper_one, refused_exactly, quiet_exactly}
 use Rattle.format.specs.Layout.{layout_rows, layout_refusal, events}
@@ -30,6 +30,9 @@ module _ (t : Trace) where
 
   pub event_exactly : (k : ℕ) (o : Option Refusal) → (event_refusal t k ≡ o) ↔ First (event_rows t k) (said paper o)
   event_exactly k o = first_exactly paper paper_one (event_rows t k) (event_refusal t k) (event_first k) o
+
+  pub good_clean : (k : ℕ) → GoodEvent t k → event_refusal t k ≡ none
+  good_clean k g = (event_exactly k none).1 (quiet_none (event_rows t k) (good_quiet t k g))
 
   pub clean_good : (k : ℕ) → event_refusal t k ≡ none → GoodEvent t k
   clean_good k e = quiet_good t k (none_quiet (event_rows t k) ((event_exactly k none).0 e))

@@ -1,7 +1,7 @@
 -- An answer and its number say the same: what a caller reads out of the number is the answer.
 use Prim.Native.Nat.{ℕ, ◌+◌, ◌*◌, ◌/◌, ◌%◌, ◌<◌, ◌≤◌}
 use native.Mathlib.Omega.{arith}
-use mathlib.Core.Path.{◌≡◌, refl, ap}
+use mathlib.Core.Path.{◌≡◌, refl}
 use borrow.Author.Tests.{ne_eqb}
 use Rattle.limits.specs.Refusals.{number_of}
 use Rattle.limits.specs.declared.Refusal.{Refusal}
@@ -12,7 +12,6 @@ use Rattle.observing.specs.declared.Observed.{Observed}
 use Rattle.observing.specs.declared.Observed.TheVariants.{Write, Start, NotARead}
 use Rattle.verdicts.specs.declared.Pair.{Pair}
 use Rattle.checking.proofs.FaultLaws.{number_checked}
-use Rattle.checking.specs.declared.Fault.{Fault}
 use Rattle.numbers.specs.Numbers.{Parts, packed, unpacked, Small, ReadBack}
 use Rattle.numbers.specs.Packed.{of_refusal, to_refusal, in_case, of_judgement, to_judgement, of_observed, to_observed, of_observations, to_observations, of_finding, to_finding, of_next, to_next, of_check, to_check, of_noted, to_noted, of_written, to_written, NumbersExact}
 
@@ -96,10 +95,10 @@ next_back (Err r) = rw (passed r 107 (omega arith), passed r 108 (omega arith), 
 next_back (Ok (Some x)) = refl
 next_back (Ok None) = refl
 
-check_back : (c : Result (Option Fault) Refusal) → to_check (of_check c) ≡ c
+check_back : (c : Result (Option ℕ) Refusal) → to_check (of_check c) ≡ c
 check_back (Err r) = rw (passed r 109 (omega arith), passed r 110 (omega arith), refusal_back r)
 check_back (Ok None) = refl
-check_back (Ok (Some f)) = ap Ok (number_checked f)
+check_back (Ok (Some n)) = refl
 
 noted_back : (n : Option ℕ) → to_noted (of_noted n) ≡ n
 noted_back (Some m) = refl
@@ -124,6 +123,7 @@ numbers_exact =
       finding = read_back of_finding to_finding finding_back;
       next = read_back of_next to_next next_back;
       check = read_back of_check to_check check_back;
+      fault = number_checked;
       noted = read_back of_noted to_noted noted_back;
       written = read_back of_written to_written written_back;
     }

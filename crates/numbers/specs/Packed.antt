@@ -1,6 +1,6 @@
 -- Each answer as a case and two numbers. A refusal's case is the paper's number; all other cases are numbers from 100 on, and no two answers share one.
 -- Beside each the answer that a caller reads out of the parts.
-use Rattle.std.specs.Prelude.{ℕ, ◌<◌, cond, Option, None, Some, Result, Ok, Err, List, [], ◌∷◌, get_or, eqb}
+use Rattle.std.specs.Prelude.{ℕ, ◌≡◌, ◌<◌, cond, Option, None, Some, Result, Ok, Err, List, [], ◌∷◌, get_or, eqb}
 use Rattle.limits.specs.Refusals.{number_of, event_of}
 use Rattle.limits.specs.declared.Refusal.{Refusal}
 use Rattle.limits.specs.declared.Refusal.TheVariants.{FileSize, Mark, EventCount, Distance, Kind, Thread, Object, SelfOrSecond, AlreadyBegun, AlreadyJoined, LockHeld, NotHolder, ListShort, NotConflicting, AreaShort, Preamble}
@@ -128,13 +128,19 @@ to_next p = in_case race p (Ok (Some (record { lower = p.first; higher = p.secon
 
 -- ---- question 5: the number of the fault
 
-abbrev pub of_check : Result (Option Fault) Refusal → Parts
+-- the answer with the fault's number in place of the fault
+abbrev pub by_number : Result (Option Fault) Refusal → Result (Option ℕ) Refusal
+by_number (Err r) = Err r
+by_number (Ok None) = Ok None
+by_number (Ok (Some f)) = Ok (Some (fault_number f))
+
+abbrev pub of_check : Result (Option ℕ) Refusal → Parts
 of_check (Err r) = of_refusal r
 of_check (Ok None) = parts yes 0 0
-of_check (Ok (Some f)) = parts no (fault_number f) 0
+of_check (Ok (Some n)) = parts no n 0
 
-abbrev pub to_check : Parts → Result (Option Fault) Refusal
-to_check p = in_case yes p (Ok None) (in_case no p (Ok (checked p.first)) (Err (to_refusal p)))
+abbrev pub to_check : Parts → Result (Option ℕ) Refusal
+to_check p = in_case yes p (Ok None) (in_case no p (Ok (Some p.first)) (Err (to_refusal p)))
 
 -- ---- question 6: how many bytes of the file
 
@@ -166,7 +172,7 @@ WrittenSmall (Ok n) = n < 65536
 
 -- ---- exact both ways
 
--- each answer is read out of its number; the numbers of an answer of the code are small
+-- each answer is read out of its number, and each fault out of its; the numbers of an answer of the code are small
 pub record NumbersExact : Type 0 where
   pub judgement : ReadBack of_judgement to_judgement
   pub observed : ReadBack of_observed to_observed
@@ -174,5 +180,6 @@ pub record NumbersExact : Type 0 where
   pub finding : ReadBack of_finding to_finding
   pub next : ReadBack of_next to_next
   pub check : ReadBack of_check to_check
+  pub fault : (f : Fault) → checked (fault_number f) ≡ Some f
   pub noted : ReadBack of_noted to_noted
   pub written : ReadBack of_written to_written

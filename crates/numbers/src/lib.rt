@@ -6,7 +6,7 @@ ghost use Rattle.numbers.specs.Numbers.{parts, packed};
 ghost use Rattle.numbers.specs.Packed.{of_refusal, of_judgement, of_observed, of_observations, of_finding, of_next, of_check, of_noted, of_written, NotedSmall, WrittenSmall};
 
 use limits::Refusal;
-use questions::{Counts, Fault, Observed, Pair};
+use questions::{Counts, Observed, Pair};
 
 // The cases of the answers: numbers, since other languages read them. A refusal's case is the paper's number, which is lower.
 const GOOD: u8 = 100;
@@ -105,13 +105,14 @@ pub fn of_next(n: Result<Option<Pair>, Refusal>) -> u64
     }
 }
 
-pub fn of_check(c: Result<Option<Fault>, Refusal>) -> u64
+// A fault is told by its number, as the answer has it: any number can be told.
+pub fn of_check(c: Result<Option<u8>, Refusal>) -> u64
     ensures { result ≡ packed (of_check c) }
 {
     match c {
         Err(r) => refusal(r),
         Ok(None) => number(YES, 0, 0),
-        Ok(Some(fault)) => number(NO, fault.number() as u16, 0),
+        Ok(Some(fault)) => number(NO, u16::from(fault), 0),
     }
 }
 

@@ -53,11 +53,11 @@ module _ {s : Table} {m : ℕ} {tops P Q out : List ℕ} (g : Mergeable s m tops
 
 module _ {s : Table} {m : ℕ} {P Q ends low : List ℕ} (e : Ended s m P Q ends) (n : Needed s m P Q (Bound (events s) P Q) low) where
   pub merge_ready : Ready s m P Q ends low
-  merge_ready = record { lists = parts_lists s e.given.parts; ends_room = e.given.room; need_room = n.given.room }
+  merge_ready = record { lists = parts_lists s.words.now s.links e.given.parts; ends_room = e.given.room; need_room = n.given.room }
 
   module _ {need : List ℕ} (x : Solved (events s) m P Q ends low need) where
     merged : climb (at need) P Q ≡ least_merge (events s) P Q
-    merged = merge_is s e.given.parts e.are n.are x.least
+    merged = merge_is s.words.now s.links e.given.parts e.are n.are x.least
 
     pub merge_done : (out : List ℕ) {out' : List ℕ} → out' ≡ in_front (climb (at need) P Q) out → out' ≡ in_front (least_merge (events s) P Q) out
     merge_done out q = q ∙ ap (λ (l : List ℕ). in_front l out) merged

@@ -109,7 +109,7 @@ fn next_with(table: &Table, a: u16, b: u16, list: &mut [u16]) -> Option<Race>
     requires { WitnessRoom table.now list.old }
     ensures { HandsWith (events table.now) a b list.old list.new result }
 {
-    for y in b as usize + 1..=table.count() {
+    for y in b as usize + 1..table.count() + 1 {
         let higher = y as u16;
         if let Some(length) = race_on(table, a, higher, list) {
             return Some(Race {
@@ -128,7 +128,7 @@ pub fn next_race(table: &Table, a: u16, b: u16, list: &mut [u16]) -> Option<Race
     ensures { Hands (next_race (events table.now) a b) list.old list.new result }
 {
     let mut after = b;
-    for x in a as usize..=table.count() {
+    for x in a as usize..table.count() + 1 {
         let lower = x as u16;
         if let Some(race) = next_with(table, lower, after, list) {
             return Some(race);

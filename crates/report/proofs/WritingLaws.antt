@@ -175,58 +175,52 @@ module _ (w : Progress) (r : Position) (e : w.next ≡ Some r) where
   countable_on : (t : Trace) → OnNext (Countable t) (next_of w) → Countable t r
   countable_on t c = let P : RustOption Position → Type 0 = λ o. OnNext (Countable t) (position_in o) in subst P e c
 
--- the lines from p on are written as far as the one that w tells of
-pub record Going (table : Table) (p : Position) (list₀ out₀ list out : List ℕ) (w : Progress) : Type 0 where
-  pub from : Position
-  pub at : ℕ
-  pub list_before : List ℕ
-  pub out_before : List ℕ
-  pub filling : Filling table p list₀ out₀ list_before out_before from at
-  pub line : Advances (events table) (lines_from (events table) from) list_before list at out_before out w
-
-module _ {p : Position} {table : Table} {list₀ out₀ list out : List ℕ} {w : Progress} (g : Going table p list₀ out₀ list out w) where
+-- a line is put behind these, and w tells of it
+module _ {p : Position} {table : Table} {list₀ out₀ list out : List ℕ} {q : Position} {m : ℕ} (f : Filling table p list₀ out₀ list out q m)
+    {list' out' : List ℕ} (w : Progress) (x : Advances (events table) (lines_from (events table) q) list list' m out out' w) where
   -- the room that is left behind the line
-  room-left : length g.out_before - g.at - length g.line.line ≡ length out - w.bytes
-  room-left = let k = g.line.puts.ends in let s = g.line.puts.same in omega arith
+  room-left : length out - m - length x.line ≡ length out' - w.bytes
+  room-left = let k = x.puts.ends in let s = x.puts.same in omega arith
 
-  pub going_within : w.bytes ≤ length out
-  going_within = let a = g.line.puts.within in let b = g.line.puts.same in omega arith
+  pub fill_within : w.bytes ≤ length out'
+  fill_within = let a = x.puts.within in let b = x.puts.same in omega arith
 
-  pub going_full : length out - w.bytes < line_bytes → Fills (events table) p list₀ list out₀ out w
-  going_full h =
+  pub fill_full : length out' - w.bytes < line_bytes → Fills (events table) p list₀ list' out₀ out' w
+  fill_full h =
       let k = room-left in
-      let v : length g.out_before - g.at - length g.line.line < line_bytes = omega arith in
-      filled g.filling w g.line (ap (fill (length g.out_before - g.at)) g.line.first ∙ fill_stops (length g.out_before - g.at) (record { bytes = g.line.line; behind = next_of w }) (after (lines_from (events table)) (next_of w)) v)
+      let v : length out - m - length x.line < line_bytes = omega arith in
+      filled f w x (ap (fill (length out - m)) x.first ∙ fill_stops (length out - m) (record { bytes = x.line; behind = next_of w }) (after (lines_from (events table)) (next_of w)) v)
 
-  pub going_ended : w.next ≡ None → Fills (events table) p list₀ list out₀ out w
-  going_ended e = filled g.filling w g.line (ap (fill (length g.out_before - g.at)) g.line.first ∙ fill_ends (length g.out_before - g.at) (events table) g.line.line (next_of w) (ap position_in e))
+  pub fill_ended : w.next ≡ None → Fills (events table) p list₀ list' out₀ out' w
+  fill_ended e = filled f w x (ap (fill (length out - m)) x.first ∙ fill_ends (length out - m) (events table) x.line (next_of w) (ap position_in e))
 
-  module _ (r : Position) (e : w.next ≡ Some r) (h : line_bytes ≤ length out - w.bytes) where
-    going_filling : Filling table p list₀ out₀ list out r w.bytes
-    going_filling =
-        let f = g.filling in
-        let y = g.line in
+  module _ (r : Position) (e : w.next ≡ Some r) where
+    first_on : lines_from (events table) q ≡ record { bytes = x.line; behind = next_of w } ∷ lines_from (events table) r
+    first_on = x.first ∙ ap (λ (l : List Line). record { bytes = x.line; behind = next_of w } ∷ l) (lines_behind w r e (events table))
+
+    pub fill_less : length (lines_from (events table) r) < length (lines_from (events table) q)
+    fill_less = let l = ap length first_on in omega arith
+
+    pub fill_on : line_bytes ≤ length out' - w.bytes → Filling table p list₀ out₀ list' out' r w.bytes
+    fill_on h =
         let k = room-left in
-        let v : line_bytes ≤ length g.out_before - g.at - length y.line = omega arith in
-        let i = going_within in
-        let d : Room w.bytes out = omega arith in
+        let v : line_bytes ≤ length out - m - length x.line = omega arith in
+        let i = fill_within in
+        let d : Room w.bytes out' = omega arith in
         let a = f.left in
-        let b = ap length (y.first ∙ ap (λ (l : List Line). record { bytes = y.line; behind = next_of w } ∷ l) (lines_behind w r e (events table))) in
-        let n : fill (length g.out_before - g.at) (lines_from (events table) g.from) ≡ (y.line ++ (fill (length out - w.bytes) (lines_from (events table) r)).0, (fill (length out - w.bytes) (lines_from (events table) r)).1) =
-        rw (room-left, lines_behind w r e (events table)) at (ap (fill (length g.out_before - g.at)) y.first ∙ fill_goes (length g.out_before - g.at) (record { bytes = y.line; behind = next_of w }) (after (lines_from (events table)) (next_of w)) v) in
+        let b = fill_less in
+        let n : fill (length out - m) (lines_from (events table) q) ≡ (x.line ++ (fill (length out' - w.bytes) (lines_from (events table) r)).0, (fill (length out' - w.bytes) (lines_from (events table) r)).1) =
+        rw (room-left, lines_behind w r e (events table)) at (ap (fill (length out - m)) x.first ∙ fill_goes (length out - m) (record { bytes = x.line; behind = next_of w }) (after (lines_from (events table)) (next_of w)) v) in
         record {
-          writing = again f.writing (countable_on w r e (events table) y.countable) y.list_long d;
-          put = f.put ++ y.line;
-          puts = appends_then f.puts y.puts;
-          bytes = f.bytes ∙ ap (λ (z : List ℕ × Option Position). f.put ++ z.0) n ∙ sym (append_assoc f.put y.line (fill (length out - w.bytes) (lines_from (events table) r)).0);
+          writing = again f.writing (countable_on w r e (events table) x.countable) x.list_long d;
+          put = f.put ++ x.line;
+          puts = appends_then f.puts x.puts;
+          bytes = f.bytes ∙ ap (λ (z : List ℕ × Option Position). f.put ++ z.0) n ∙ sym (append_assoc f.put x.line (fill (length out' - w.bytes) (lines_from (events table) r)).0);
           stops = f.stops ∙ ap (λ (z : List ℕ × Option Position). z.1) n;
           left = omega arith;
-          list_long = y.list_long ∙ f.list_long;
-          out_long = y.puts.same ∙ f.out_long;
+          list_long = x.list_long ∙ f.list_long;
+          out_long = x.puts.same ∙ f.out_long;
         }
-
-    pub going_on : {list' out' : List ℕ} (w' : Progress) → Advances (events table) (lines_from (events table) r) list list' w.bytes out out' w' → Going table p list₀ out₀ list' out' w'
-    going_on w' x = record { from = r; at = w.bytes; list_before = list; out_before = out; filling = going_filling; line = x }
 
 -- ---- block after block: what a caller goes on by
 

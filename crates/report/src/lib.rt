@@ -103,14 +103,20 @@ pub fn block(table: &Table, p: Position, list: &mut [u16], out: &mut [u8]) -> Pr
     requires { Writing table.now p list.old 0 out.old }
     ensures { Fills (events table.now) p list.old list.new out.old out.new result }
 {
-    let mut progress = line(table, p, list, out, 0);
-    while let Some(next) = progress.next {
+    let mut position = p;
+    let mut bytes = 0;
+    // A `loop`: what the line says tells whether another follows. The line is called in one place, so that it is compiled into this.
+    loop {
+        let progress = line(table, position, list, out, bytes);
+        let Some(next) = progress.next else {
+            return progress;
+        };
         if out.len() - progress.bytes < LINE_BYTES {
             return progress;
         }
-        progress = line(table, next, list, out, progress.bytes);
+        position = next;
+        bytes = progress.bytes;
     }
-    progress
 }
 
 // The same with a new list.

@@ -144,15 +144,16 @@ pub fn is_event(table: &[u16], k: usize, kind: u8, object: usize) -> bool
     kind_at(table, k) == kind && object_at(table, k) == object
 }
 
-// Are events of these kinds accesses, at least one a write?
+// Are events of these kinds accesses, at least one a write? By their numbers, and by a branch: that is quicker, and a report asks it of most pairs.
 #[tactic(auto, unfolding(crate::specs::Conflicts::accesses))]
 fn accesses(c: u8, d: u8) -> bool
     ensures { result ≡ accesses c d }
 {
-    matches!(
-        (Kind::try_from(c), Kind::try_from(d)),
-        (Ok(Kind::Write), Ok(Kind::Read | Kind::Write)) | (Ok(Kind::Read), Ok(Kind::Write))
-    )
+    let (read, write) = (Kind::Read.number(), Kind::Write.number());
+    if c == write {
+        return d == read || d == write;
+    }
+    c == read && d == write
 }
 
 // Are two events of the trace, lower first, a conflicting pair: of one cell, of different threads, both accesses, at least one a write?

@@ -9,7 +9,9 @@ ghost use Rattle.questions.specs.Note.{answer_noted};
 ghost use Rattle.writing.specs.Writing.{answer_write};
 ghost use Rattle.report.specs.Places.{answer_lines};
 ghost use Rattle.numbers.specs.Numbers.{packed, told, told_two};
-ghost use Rattle.numbers.specs.Packed.{of_judgement, of_observed, of_observations, of_finding, of_next, of_check, of_noted, of_written};
+ghost use Rattle.numbers.specs.Packed.{of_judgement, of_observed, of_observations, of_finding, of_next, by_number, of_check, of_noted, of_written};
+
+use questions::Fault;
 
 // Question 1.
 #[unsafe(no_mangle)]
@@ -60,9 +62,11 @@ pub extern "C" fn tarungkis_next_race(file: &[u8], a: u16, b: u16, area: &mut [u
 // Question 5.
 #[unsafe(no_mangle)]
 pub extern "C" fn tarungkis_check_reordering(file: &[u8], a: u16, b: u16, list: &[u16]) -> u64
-    ensures { result ≡ packed (of_check (answer_check file.now a b list.now)) }
+    ensures { result ≡ packed (of_check (by_number (answer_check file.now a b list.now))) }
 {
-    numbers::of_check(questions::check_reordering(file, a, b, list))
+    numbers::of_check(questions::check_reordering(file, a, b, list).map(|fault| fault.map(
+        Fault::number,
+    )))
 }
 
 // Question 6, by where the note stands.

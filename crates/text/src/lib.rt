@@ -44,7 +44,7 @@ fn with_digit(n: usize, c: u8) -> usize {
     n * 10 + digit(c)
 }
 
-// The number that a word stands for, and 65535 for every greater one. A byte that is no digit counts as a 0.
+// The number of a word's digits, and 65535 for every greater one; behind a number of five digits no more are read. A byte that is no digit counts as a 0.
 fn short(word: &[u8]) -> u16 {
     let n = word.iter().fold(0, |n, c| with_digit(n, *c));
     u16::try_from(n).unwrap_or(u16::MAX)

@@ -21,7 +21,4 @@ pub loop-x-preserved : goal.loop-x-preserved
 loop-x-preserved c = search (walking_on, rules)
 
 pub returns : goal.returns
-returns c = search (no_more, rules)
-
-pub returns-in_default : goal.returns-in_default
-returns-in_default c = no_more (walking_on c.loop-x.invariant c.next_with.result c.next_with.ensures c.in_default.is) c.count-x-end.result c.count-x-end.ensures (omega arith)
+returns c = no_more c.loop-x.invariant c.count-x-end.result c.count-x-end.ensures (omega arith)

@@ -18,7 +18,4 @@ pub loop-y-preserved : goal.loop-y-preserved
 loop-y-preserved c = search (trying_on, rules)
 
 pub returns : goal.returns
-returns c = search (with_no_more, rules)
-
-pub returns-in_default : goal.returns-in_default
-returns-in_default c = with_no_more (trying_on c.loop-y.invariant c.race_on.result c.race_on.ensures c.in_default.is) c.count-y-end.result c.count-y-end.ensures (omega arith)
+returns c = with_no_more c.loop-y.invariant c.count-y-end.result c.count-y-end.ensures (omega arith)

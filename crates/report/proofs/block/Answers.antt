@@ -1,12 +1,12 @@
 use Rattle.std.proofs.Common.{rules}
-use Rattle.report.proofs.WritingLaws.{going_full, going_on, going_ended}
+use Rattle.report.proofs.WritingLaws.{fill_ended, fill_full, fill_on}
 use Rattle.report.proofs.block.Goals as goal
 
+pub returns-in_default : goal.returns-in_default
+returns-in_default c = search (fill_ended, rules)
+
 pub returns-then-out-progress-lt-LINE_BYTES : goal.returns-then-out-progress-lt-LINE_BYTES
-returns-then-out-progress-lt-LINE_BYTES c = search (going_full, rules)
+returns-then-out-progress-lt-LINE_BYTES c = search (fill_full, rules)
 
-pub loop-progress-preserved : goal.loop-progress-preserved
-loop-progress-preserved c = search (going_on, rules)
-
-pub returns : goal.returns
-returns c = search (going_ended, rules)
+pub loop-next-preserved : goal.loop-next-preserved
+loop-next-preserved c = search (fill_on, rules)

@@ -1,6 +1,6 @@
 use Rattle.std.proofs.Common.{rules}
 use Rattle.cone.proofs.BarLaws.{root_valid, bars_start, bars_more, bars_end}
-use Rattle.cone.proofs.bars_of.Goals as goal
+use Rattle.cone.proofs.set_bars.Goals as goal
 
 pub loop-r-init : goal.loop-r-init
 loop-r-init c = search (bars_start, rules)
