@@ -41,10 +41,11 @@ fn set_bars(table: &Table, roots: &[u16], bars: &mut [u16; Thread::COUNT])
 #[derive(Clone, Copy)]
 struct RootInside;
 
-// What a search for a cone goes by.
+// What a search for a cone goes by. It is two references and is handed on as such: a table in it, or a reference to it, would be put into memory
+// for each pair of a report.
 #[derive(Clone, Copy)]
 struct Search<'a> {
-    table: Table<'a>,
+    table: &'a Table<'a>,
     // The root of each thread; NO_ROOT where it has none.
     bars: &'a [u16; Thread::COUNT],
 }
@@ -52,18 +53,18 @@ struct Search<'a> {
 impl Search<'_> {
     // Is event k by the thread of a root?
     #[tactic(auto, unfolding(crate::specs::Following::has_root))]
-    fn has_root(&self, k: usize) -> bool
-        requires { Valid (events self.now.table) k }
-        ensures { result ≡ has_root self.now.bars.now (thread_of (events self.now.table) k) }
+    fn has_root(self, k: usize) -> bool
+        requires { Valid (events self.table.now) k }
+        ensures { result ≡ has_root self.entry.bars.now (thread_of (events self.entry.table.now) k) }
     {
         let c = self.table.thread_place(k);
         self.bars[c] != NO_ROOT
     }
 
     // Event k, if it is one, is in the cone: the top of its thread is no lower. A link of the table is 0 where there is no event.
-    fn raise(&self, k: usize, tops: &mut [u16; Thread::COUNT]) -> Result<(), RootInside>
-        requires { Raising self.now.table self.now.bars.now tops.old × Coming (events self.now.table) self.now.bars.now k }
-        ensures { Answer (events self.now.table) self.now.bars.now (Raised (events self.now.table) self.now.bars.now k tops.old tops.new) result }
+    fn raise(self, k: usize, tops: &mut [u16; Thread::COUNT]) -> Result<(), RootInside>
+        requires { Raising self.table.now self.bars.now tops.old × Coming (events self.table.now) self.bars.now k }
+        ensures { Answer (events self.entry.table.now) self.entry.bars.now (Raised (events self.entry.table.now) self.entry.bars.now k tops.old tops.new) result }
     {
         if k < 1 {
             return Ok(());
@@ -82,13 +83,13 @@ impl Search<'_> {
     // What event k, which is in the cone, brings in: its observed write (rule iii), or the events of the thread that it joins, up to the last; and, unless its
     // thread is a root's (`exempt`), its matching release (iv); a last release is linked to itself.
     fn bring(
-        &self,
+        self,
         k: usize,
         exempt: bool,
         tops: &mut [u16; Thread::COUNT],
     ) -> Result<(), RootInside>
-        requires { Raising self.now.table self.now.bars.now tops.old × (Within (events self.now.table) self.now.bars.now k × (exempt ≡ has_root self.now.bars.now (thread_of (events self.now.table) k))) }
-        ensures { Answer (events self.now.table) self.now.bars.now (BringsIn (events self.now.table) self.now.bars.now k tops.old tops.new) result }
+        requires { Raising self.table.now self.bars.now tops.old × (Within (events self.table.now) self.bars.now k × (exempt ≡ has_root self.bars.now (thread_of (events self.table.now) k))) }
+        ensures { Answer (events self.entry.table.now) self.entry.bars.now (BringsIn (events self.entry.table.now) self.entry.bars.now k tops.old tops.new) result }
     {
         self.raise(self.table.waits_at(k), tops)?;
         if exempt {
@@ -99,13 +100,13 @@ impl Search<'_> {
 
     // The events of a thread from event `from` back to event `to`, which is left out: each brings in its own (rule ii).
     fn follow(
-        &self,
+        self,
         from: usize,
         to: usize,
         tops: &mut [u16; Thread::COUNT],
     ) -> Result<(), RootInside>
-        requires { Raising self.now.table self.now.bars.now tops.old × Within (events self.now.table) self.now.bars.now from }
-        ensures { Answer (events self.now.table) self.now.bars.now (Follows (events self.now.table) self.now.bars.now from to tops.old tops.new) result }
+        requires { Raising self.table.now self.bars.now tops.old × Within (events self.table.now) self.bars.now from }
+        ensures { Answer (events self.entry.table.now) self.entry.bars.now (Follows (events self.entry.table.now) self.entry.bars.now from to tops.old tops.new) result }
     {
         let exempt = self.has_root(from);
         let mut k = from;
@@ -118,16 +119,16 @@ impl Search<'_> {
     }
 
     // Thread c is followed from its top back to where it was followed before, and its fork is in the cone.
-    // (Inlined: for a call the search would be put into memory, for each pair of a report.)
+    // (Inlined: with a call here the night's run took longer on a recording of many pairs.)
     #[inline(always)]
     fn catch_up(
-        &self,
+        self,
         c: usize,
         done: &mut [u16; Thread::COUNT],
         tops: &mut [u16; Thread::COUNT],
     ) -> Result<(), RootInside>
-        requires { Going self.now.table self.now.bars.now done.old tops.old × (c ≤ max_thread) }
-        ensures { Answer (events self.now.table) self.now.bars.now (Caught (events self.now.table) self.now.bars.now c done.old done.new tops.old tops.new) result }
+        requires { Going self.table.now self.bars.now done.old tops.old × (c ≤ max_thread) }
+        ensures { Answer (events self.entry.table.now) self.entry.bars.now (Caught (events self.entry.table.now) self.entry.bars.now c done.old done.new tops.old tops.new) result }
     {
         let from = place(tops, c);
         let to = place(done, c);
@@ -141,12 +142,12 @@ impl Search<'_> {
 
     // Each thread is followed from its top.
     fn round(
-        &self,
+        self,
         done: &mut [u16; Thread::COUNT],
         tops: &mut [u16; Thread::COUNT],
     ) -> Result<(), RootInside>
-        requires { Going self.now.table self.now.bars.now done.old tops.old }
-        ensures { Answer (events self.now.table) self.now.bars.now (Round (events self.now.table) self.now.bars.now (max_thread + 1) done.old done.new tops.old tops.new) result }
+        requires { Going self.table.now self.bars.now done.old tops.old }
+        ensures { Answer (events self.entry.table.now) self.entry.bars.now (Round (events self.entry.table.now) self.entry.bars.now (max_thread + 1) done.old done.new tops.old tops.new) result }
     {
         for c in 0..Thread::COUNT {
             self.catch_up(c, done, tops)?;
@@ -155,9 +156,9 @@ impl Search<'_> {
     }
 
     // What must stand before root r is in the cone: the fork of its thread, and the event before it there (rule i).
-    fn before_root(&self, r: usize, tops: &mut [u16; Thread::COUNT]) -> Result<(), RootInside>
-        requires { Raising self.now.table self.now.bars.now tops.old × IsRoot (events self.now.table) self.now.bars.now r }
-        ensures { Answer (events self.now.table) self.now.bars.now (BeforeRoot (events self.now.table) self.now.bars.now r tops.old tops.new) result }
+    fn before_root(self, r: usize, tops: &mut [u16; Thread::COUNT]) -> Result<(), RootInside>
+        requires { Raising self.table.now self.bars.now tops.old × IsRoot (events self.table.now) self.bars.now r }
+        ensures { Answer (events self.entry.table.now) self.entry.bars.now (BeforeRoot (events self.entry.table.now) self.entry.bars.now r tops.old tops.new) result }
     {
         self.raise(self.table.forked_at(r), tops)?;
         self.raise(self.table.previous_at(r), tops)
@@ -165,13 +166,13 @@ impl Search<'_> {
 
     // So it is, and the thread is followed from there.
     fn start(
-        &self,
+        self,
         r: usize,
         done: &mut [u16; Thread::COUNT],
         tops: &mut [u16; Thread::COUNT],
     ) -> Result<(), RootInside>
-        requires { Going self.now.table self.now.bars.now done.old tops.old × IsRoot (events self.now.table) self.now.bars.now r }
-        ensures { Answer (events self.now.table) self.now.bars.now (Started (events self.now.table) self.now.bars.now r done.new tops.old tops.new) result }
+        requires { Going self.table.now self.bars.now done.old tops.old × IsRoot (events self.table.now) self.bars.now r }
+        ensures { Answer (events self.entry.table.now) self.entry.bars.now (Started (events self.entry.table.now) self.entry.bars.now r done.new tops.old tops.new) result }
     {
         self.before_root(r, tops)?;
         self.catch_up(self.table.thread_place(r), done, tops)
@@ -179,13 +180,13 @@ impl Search<'_> {
 
     // So from each root, the last one first: below the higher event of a pair the lower one is found soonest.
     fn seed(
-        &self,
+        self,
         roots: &[u16],
         done: &mut [u16; Thread::COUNT],
         tops: &mut [u16; Thread::COUNT],
     ) -> Result<(), RootInside>
-        requires { Going self.now.table self.now.bars.now done.old tops.old × Bars (events self.now.table) roots.now self.now.bars.now }
-        ensures { Answer (events self.now.table) self.now.bars.now (Seeded (events self.now.table) self.now.bars.now roots.now 0 done.new tops.new) result }
+        requires { Going self.table.now self.bars.now done.old tops.old × Bars (events self.table.now) roots.now self.bars.now }
+        ensures { Answer (events self.entry.table.now) self.entry.bars.now (Seeded (events self.entry.table.now) self.entry.bars.now roots.now 0 done.new tops.new) result }
     {
         for &r in roots.iter().rev() {
             self.start(usize::from(r), done, tops)?;
@@ -194,9 +195,9 @@ impl Search<'_> {
     }
 
     // The whole cone: from the roots, and then in rounds, until no thread is followed less far than its top.
-    fn reach(&self, roots: &[u16], tops: &mut [u16; Thread::COUNT]) -> Result<(), RootInside>
-        requires { Rooted self.now.table roots.now × (Bars (events self.now.table) roots.now self.now.bars.now × (tops.old ≡ replicate (max_thread + 1) 0)) }
-        ensures { Answer (events self.now.table) self.now.bars.now (Told (events self.now.table) roots.now tops.new true) result }
+    fn reach(self, roots: &[u16], tops: &mut [u16; Thread::COUNT]) -> Result<(), RootInside>
+        requires { Rooted self.table.now roots.now × (Bars (events self.table.now) roots.now self.bars.now × (tops.old ≡ replicate (max_thread + 1) 0)) }
+        ensures { Answer (events self.entry.table.now) self.entry.bars.now (Told (events self.entry.table.now) roots.now tops.new true) result }
     {
         let mut done = [0u16; Thread::COUNT];
         self.seed(roots, &mut done, tops)?;
@@ -224,10 +225,7 @@ pub fn outside(table: &Table, roots: &[u16], tops: &mut [u16; Thread::COUNT]) ->
 {
     let mut bars = [NO_ROOT; Thread::COUNT];
     set_bars(table, roots, &mut bars);
-    let search = Search {
-        table: *table,
-        bars: &bars,
-    };
+    let search = Search { table, bars: &bars };
     search.reach(roots, tops).is_ok()
 }
 

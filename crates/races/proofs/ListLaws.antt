@@ -10,7 +10,8 @@ use mir.Val.{Fits}
 use mir.Syntax.{w16}
 use lib.ListN.{length}
 use Rattle.std.specs.Prelude.{Option as RustOption, None, Some}
-use Rattle.model.specs.Trace.{Trace}
+use Rattle.model.specs.Trace.{Trace, Valid}
+use Rattle.model.specs.Race.{Conflicting}
 use Rattle.model.specs.Lists.{pair}
 use Rattle.model.specs.Listing.{Race, RaceOf, pair_of, After}
 use Rattle.decision.specs.Decision.{is_conflicting, next_race}
@@ -19,6 +20,7 @@ use Rattle.decision.proofs.OrderExact.{by_last}
 use Rattle.decision.proofs.ListingExact.{conflicting_exactly, witness_exactly, next_exactly, next-none}
 use Rattle.table.specs.declared.judged.Table.{Table}
 use Rattle.table.specs.Judged.{events}
+use Rattle.table.specs.Conflicts.{Lower}
 use Rattle.races.specs.Witness.{WitnessRoom, Shows}
 use Rattle.races.proofs.AnswerLaws.{witnessed-none, witnessed-some, handed-none, handed-some}
 use Rattle.races.specs.Next.{Hands, witness_of, NoRaces, FirstWith, with_none, with_race, HandsWith}
@@ -114,20 +116,49 @@ same e = record { is = e; long = ap length e }
 pub record Trying (table : Table) (a b : ℕ) (list₀ list : List ℕ) (y : ℕ) : Type 0 where
   pub given : WitnessRoom table list₀
   pub same : Same list₀ list
+  pub first : Valid (events table) a
+  pub lower : a < y
   pub above : b < y
   pub tried : NoRaces (events table) a b y
 
-pub trying_start : (table : Table) (a b : ℕ) {list : List ℕ} → WitnessRoom table list → Trying table a b list list (b + 1)
-trying_start table a b r = record { given = r; same = same refl; above = omega arith; tried = λ z p q. absurd (omega arith) }
+-- numbers that are no conflicting pair have no witness
+no-witness : (t : Trace) (a z : ℕ) → (Conflicting t a z → ⊥) → witness_of t a z ≡ none
+unfolding witness_of
+no-witness t a z n = rw (false_test (conflicting_exactly t a z).0 n)
+
+module _ (table : Table) (a b : ℕ) {list : List ℕ} where
+  pub with_start : a < 1 → HandsWith (events table) a b list list None
+  with_start h = record {
+    race = none;
+    first = with_none (λ y z l m. no-witness (events table) a z (λ c. let p = c.first.positive in omega arith));
+    hands = record { says = refl; wrote = refl };
+  }
+
+  module _ (r : WitnessRoom table list) (l : a ≤ length (events table)) (p : a < 1 → ⊥) where
+    pub trying_first : Valid (events table) a
+    trying_first = record { positive = omega arith; bounded = l }
+
+    -- m is the higher of a and b, and none of the numbers up to a is a higher event
+    pub trying_start : (m : ℕ) → a ≤ m → b ≤ m → (b < m → m ≤ a) → Trying table a b list list (m + 1)
+    trying_start m la lb h = record {
+      given = r;
+      same = same refl;
+      first = trying_first;
+      lower = omega arith;
+      above = omega arith;
+      tried = λ z q k. let up = h (omega arith) in no-witness (events table) a z (λ c. let o = c.lower in omega arith);
+    }
 
 module _ {table : Table} {a b : ℕ} {list₀ list : List ℕ} {y : ℕ} (p : Trying table a b list₀ list y) where
   module _ (n : ℕ) (en : n ≡ length (events table)) where
     pub higher_fits : y ≤ n → Fits w16 y
     higher_fits h = let s = table.links.good.size in record { fits = omega arith }
 
+    pub trying_lower : y ≤ n → Lower (events table) a y
+    trying_lower h = let l = p.lower in record { first = p.first; second = record { positive = omega arith; bounded = omega arith }; lower = l }
+
     beyond : (z : ℕ) → n < z → witness_of (events table) a z ≡ none
-    unfolding witness_of
-    beyond z h = rw (false_test (conflicting_exactly (events table) a z).0 (λ c. let b = c.second.bounded in omega arith))
+    beyond z h = no-witness (events table) a z (λ c. let b = c.second.bounded in omega arith)
 
     pub with_no_more : n < y → HandsWith (events table) a b list₀ list None
     with_no_more h = record {
@@ -158,6 +189,8 @@ module _ {table : Table} {a b : ℕ} {list₀ list : List ℕ} {y : ℕ} (p : Tr
         let l : list' ≡ list = rw w at s.wrote in record {
           given = p.given;
           same = same (l ∙ p.same.is);
+          first = p.first;
+          lower = let h = p.lower in omega arith;
           above = let h = p.above in omega arith;
           tried = λ z l m. go z l w (dec_lt z y) m;
         }

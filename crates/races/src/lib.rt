@@ -8,11 +8,12 @@ ghost use Rattle.model.specs.Good.{max_thread};
 ghost use Rattle.decision.specs.Stairs.{least_merge};
 ghost use Rattle.decision.specs.Decision.{is_conflicting, witness, next_race};
 ghost use Rattle.table.specs.Judged.{events};
+ghost use Rattle.table.specs.Conflicts.{Lower, IsEvent};
 ghost use Rattle.races.specs.Witness.{WitnessRoom, Shows};
 ghost use Rattle.races.specs.Engine.{Joinable, Mergeable, Coned, if_correct, shown_of};
 ghost use Rattle.races.specs.Next.{Hands, HandsWith, witness_of};
 
-use limits::{Recording, Thread};
+use limits::{Event, Recording, Thread};
 use table::Table;
 
 // A race, with the length of its witness.
@@ -92,29 +93,33 @@ pub fn witness(table: &Table, a: u16, b: u16, list: &mut [u16]) -> Option<u16>
     split(table, m, &tops, list)
 }
 
-// The witness of two numbers, where they are a conflicting pair.
-#[tactic(auto, unfolding(crate::specs::Next::witness_of))]
-fn race_on(table: &Table, a: u16, b: u16, list: &mut [u16]) -> Option<u16>
-    requires { WitnessRoom table.now list.old }
+// The witness of two events, lower first, where they are a conflicting pair. The lower one is event a, as a file has it.
+#[tactic(auto, unfolding(crate::specs::Next::witness_of), using(table::proofs::ConflictLaws::conflict_is))]
+fn race_on(table: &Table, event: Event, a: u16, b: usize, list: &mut [u16]) -> Option<u16>
+    requires { WitnessRoom table.now list.old × (Lower (events table.now) a b × IsEvent (events table.now) a event) }
     ensures { Shows (witness_of (events table.now) a b) list.old list.new result }
 {
-    if !table.conflicting(a, b) {
+    if !table::in_conflict(event, table.event_at(b)) {
         return None;
     }
-    witness(table, a, b, list)
+    witness(table, a, b as u16, list)
 }
 
-// The first race with a as its lower event and a higher one above b.
+// The first race with a as its lower event and a higher one above b. Event a is read once for all its pairs: a report goes over them all, and most are
+// in no conflict.
 fn next_with(table: &Table, a: u16, b: u16, list: &mut [u16]) -> Option<Race>
-    requires { WitnessRoom table.now list.old }
+    requires { WitnessRoom table.now list.old × (a ≤ length (events table.now)) }
     ensures { HandsWith (events table.now) a b list.old list.new result }
 {
-    for y in b as usize + 1..table.count() + 1 {
-        let higher = y as u16;
-        if let Some(length) = race_on(table, a, higher, list) {
+    if a < 1 {
+        return None;
+    }
+    let event = table.event_at(usize::from(a));
+    for y in usize::from(a.max(b)) + 1..table.count() + 1 {
+        if let Some(length) = race_on(table, event, a, y, list) {
             return Some(Race {
                 lower: a,
-                higher,
+                higher: y as u16,
                 length,
             });
         }

@@ -4,14 +4,16 @@ use native.Mathlib.Omega.{arith}
 use mathlib.Core.Path.{◌≡◌, sym, ◌∙◌}
 use mathlib.Core.Bool.{Bool, false}
 use lib.ListN.{length}
-use borrow.Author.Tests.{eq-eqb, ne_eqb, lt-ltb}
+use lib.Dec.{eqb}
+use borrow.Author.Tests.{eq-eqb, ne_eqb, lt-ltb, eqb-true, eqb-false}
 use Rattle.model.specs.Trace.{Trace, thread_of, kind_of, object_of}
 use Rattle.model.specs.Race.{Conflicting}
 use Rattle.decision.specs.Decision.{is_access, is_conflicting}
-use Rattle.model.proofs.Tests.{false_test}
+use Rattle.model.proofs.Tests.{false_test, by_cases}
 use Rattle.decision.proofs.CheckExact.{true_valid}
 use Rattle.decision.proofs.ListingExact.{conflicting_exactly}
-use Rattle.table.specs.Conflicts.{Lower, accesses}
+use Rattle.limits.specs.declared.Event.{Event}
+use Rattle.table.specs.Conflicts.{Lower, IsEvent, accesses, in_conflict}
 
 -- ---- the pair
 
@@ -40,3 +42,16 @@ module _ (t : Trace) (a b : ℕ) where
     by_kinds k j ek ej r e =
         rw (true_valid t a l.first, true_valid t b l.second, lt-ltb a b l.lower, ne_eqb (thread_of t a) (thread_of t b) (λ q. apart (ec ∙ q ∙ sym ed)), eq-eqb (object_of t a) (object_of t b) (sym ex ∙ cell ∙ ey), ← ek, ← ej)
         e
+
+-- ---- the test of two events
+
+module _ {t : Trace} {a b : ℕ} (l : Lower t a b) {e f : Event} (p : IsEvent t a e) (q : IsEvent t b f) where
+  pub conflict_is : (r : Bool) → r ≡ in_conflict e f → r ≡ is_conflicting t a b
+  unfolding in_conflict
+  conflict_is r h =
+      by_cases (eqb e.object f.object)
+      (λ o.
+      by_cases (eqb e.thread.number f.thread.number)
+      (λ c. (rw (o, c) at h) ∙ same_thread t a b _ _ p.thread q.thread (eqb-true _ _ c))
+      (λ c. by_kinds t a b l _ _ p.object q.object (eqb-true _ _ o) _ _ p.thread q.thread (eqb-false _ _ c) e.kind f.kind p.kind q.kind r (rw (o, c) at h)))
+      (λ o. (rw o at h) ∙ other_cell t a b _ _ p.object q.object (eqb-false _ _ o))

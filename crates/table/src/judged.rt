@@ -3,7 +3,7 @@
 ghost use Rattle.table.specs.Table.{Linked};
 ghost use Rattle.table.specs.Facts.{Linked_prop};
 
-use limits::Kind;
+use limits::{Event, Kind};
 
 // The words of a table that has the links of all its events, and so those of a good recording.
 // A link is 0 where there is none, as the definitions `previous`, `waits_for`, `release_of`, `began` and `fork_of` have it.
@@ -24,6 +24,7 @@ impl Table<'_> {
     ghost use Rattle.decision.specs.Decision.{is_conflicting};
     ghost use Rattle.table.specs.Links.{previous, waits_for, release_of, began, fork_of};
     ghost use Rattle.table.specs.Table.{columns, column};
+    ghost use Rattle.table.specs.Conflicts.{IsEvent};
     ghost use Rattle.table.specs.Judged.{events};
 
     // How many events there are.
@@ -66,6 +67,14 @@ impl Table<'_> {
         ensures upper_bound { result ≤ max_object }
     {
         crate::object_place(self.words, k)
+    }
+
+    // Event k, as a file has it.
+    pub fn event_at(&self, k: usize) -> Event
+        requires { Valid (events self.now) k }
+        ensures { IsEvent (events self.now) k result }
+    {
+        crate::event_at(self.words, k)
     }
 
     // What column c has of event k.

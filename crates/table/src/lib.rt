@@ -7,13 +7,13 @@ ghost use Rattle.model.specs.Good.{Good, max_thread, max_object};
 ghost use Rattle.limits.specs.Kinds.{kind_number};
 ghost use Rattle.model.specs.Lists.{threads};
 ghost use Rattle.decision.specs.Decision.{is_conflicting};
-ghost use Rattle.table.specs.Conflicts.{Lower, accesses};
+ghost use Rattle.table.specs.Conflicts.{Lower, IsEvent, accesses, in_conflict};
 ghost use Rattle.table.specs.Table.{words, word, trace, Place, with_word};
 
 mod judged;
 
 pub use judged::Table;
-use limits::{Kind, Recording};
+use limits::{Event, Kind, Recording, Thread};
 
 // The words of a row.
 pub const WORDS: usize = 8;
@@ -144,27 +144,46 @@ pub fn is_event(table: &[u16], k: usize, kind: u8, object: usize) -> bool
     kind_at(table, k) == kind && object_at(table, k) == object
 }
 
-// Are events of these kinds accesses, at least one a write? By their numbers, and by a branch: that is quicker, and a report asks it of most pairs.
+// Are events of these kinds accesses, at least one a write? A read is 1 and a write 2, so their sum tells. That is quicker than a case for each, and a
+// report asks it of each pair on one object.
 #[tactic(auto, unfolding(crate::specs::Conflicts::accesses))]
 fn accesses(c: u8, d: u8) -> bool
     ensures { result ≡ accesses c d }
 {
-    let (read, write) = (Kind::Read.number(), Kind::Write.number());
-    if c == write {
-        return d == read || d == write;
-    }
-    c == read && d == write
+    let write = Kind::Write.number();
+    c <= write && d <= write && write < c + d
 }
 
-// Are two events of the trace, lower first, a conflicting pair: of one cell, of different threads, both accesses, at least one a write?
-#[tactic(auto, using(crate::proofs::ConflictLaws::other_cell, crate::proofs::ConflictLaws::same_thread, crate::proofs::ConflictLaws::by_kinds))]
+// Event k, as a file has it.
+fn event_at(table: &[u16], k: usize) -> Event
+    requires { Valid (trace table.now) k }
+    ensures { IsEvent (trace table.now) k result }
+{
+    Event {
+        thread: Thread {
+            number: thread_at(table, k),
+        },
+        kind: kind_at(table, k),
+        object: object_at(table, k),
+    }
+}
+
+// Are two events in conflict: of one cell, of different threads, both accesses, at least one a write? They are handed in, so that whoever goes over
+// the pairs of an event reads that one once.
+#[tactic(auto, unfolding(crate::specs::Conflicts::in_conflict))]
+pub fn in_conflict(e: Event, f: Event) -> bool
+    ensures { result ≡ in_conflict e f }
+{
+    e.object == f.object && e.thread.number != f.thread.number && accesses(e.kind, f.kind)
+}
+
+// Are two events of the trace, lower first, a conflicting pair?
+#[tactic(auto, using(crate::proofs::ConflictLaws::conflict_is))]
 fn conflicting_in(table: &[u16], a: usize, b: usize) -> bool
     requires { Lower (trace table.now) a b }
     ensures { result ≡ is_conflicting (trace table.now) a b }
 {
-    object_at(table, a) == object_at(table, b)
-        && thread_at(table, a) != thread_at(table, b)
-        && accesses(kind_at(table, a), kind_at(table, b))
+    in_conflict(event_at(table, a), event_at(table, b))
 }
 
 // Are a and b a conflicting pair? Any two numbers may be asked.

@@ -19,4 +19,4 @@ pub overflow_cast-tops : goal.overflow_cast-tops
 overflow_cast-tops c = search raise_fits
 
 pub returns : goal.returns
-returns c = raise_up {s = c.args.self.now.table} (search rules) (search rules) (search rules) _ (search rules) (search rules) (omega (arith, c.place.ensures)) (omega (arith, c.place-2.ensures))
+returns c = raise_up {s = c.args.self.table.now} (search rules) (search rules) (search rules) _ (search rules) (search rules) (omega (arith, c.place.ensures)) (omega (arith, c.place-2.ensures))

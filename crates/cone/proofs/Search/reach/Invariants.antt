@@ -7,7 +7,7 @@ use Rattle.cone.proofs.OutsideLaws.{left}
 use Rattle.cone.proofs.Search.reach.Given as goal
 
 abbrev pub invariant-loop-done : goal.invariant-loop-done
-invariant-loop-done l = Seeded (events l.self.table) l.self.bars.now l.roots 0 l.done l.tops
+invariant-loop-done l = Seeded (events l.self.table.now) l.self.bars.now l.roots 0 l.done l.tops
 
 abbrev pub decreases-loop-done : goal.decreases-loop-done
-decreases-loop-done l = left (length (events l.self.table)) (max_thread + 1) l.done
+decreases-loop-done l = left (length (events l.self.table.now)) (max_thread + 1) l.done
