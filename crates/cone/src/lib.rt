@@ -41,8 +41,8 @@ fn set_bars(table: &Table, roots: &[u16], bars: &mut [u16; Thread::COUNT])
 #[derive(Clone, Copy)]
 struct RootInside;
 
-// What a search for a cone goes by. It is two references and is handed on as such: a table in it, or a reference to it, would be put into memory
-// for each pair of a report.
+// What a search for a cone goes by. It is two references and is handed on by value: with a table in it, and lent, it was put into memory for each
+// pair of a report.
 #[derive(Clone, Copy)]
 struct Search<'a> {
     table: &'a Table<'a>,
