@@ -116,10 +116,17 @@ same e = record { is = e; long = ap length e }
 pub record Trying (table : Table) (a b : ℕ) (list₀ list : List ℕ) (y : ℕ) : Type 0 where
   pub given : WitnessRoom table list₀
   pub same : Same list₀ list
-  pub first : Valid (events table) a
-  pub lower : a < y
   pub above : b < y
   pub tried : NoRaces (events table) a b y
+
+pub trying_start : (table : Table) (a b : ℕ) {list : List ℕ} → WitnessRoom table list → Trying table a b list list (b + 1)
+trying_start table a b r = record { given = r; same = same refl; above = omega arith; tried = λ z p q. absurd (omega arith) }
+
+-- the same, of an event a that is lower than y
+pub record TryingAbove (table : Table) (a b : ℕ) (list₀ list : List ℕ) (y : ℕ) : Type 0 where
+  pub trying : Trying table a b list₀ list y
+  pub first : Valid (events table) a
+  pub lower : a < y
 
 -- numbers that are no conflicting pair have no witness
 no-witness : (t : Trace) (a z : ℕ) → (Conflicting t a z → ⊥) → witness_of t a z ≡ none
@@ -139,23 +146,16 @@ module _ (table : Table) (a b : ℕ) {list : List ℕ} where
     trying_first = record { positive = omega arith; bounded = l }
 
     -- m is the higher of a and b, and none of the numbers up to a is a higher event
-    pub trying_start : (m : ℕ) → a ≤ m → b ≤ m → (b < m → m ≤ a) → Trying table a b list list (m + 1)
-    trying_start m la lb h = record {
-      given = r;
-      same = same refl;
-      first = trying_first;
-      lower = omega arith;
-      above = omega arith;
-      tried = λ z q k. let up = h (omega arith) in no-witness (events table) a z (λ c. let o = c.lower in omega arith);
-    }
+    pub above_start : (m : ℕ) → a ≤ m → b ≤ m → (b < m → m ≤ a) → TryingAbove table a b list list (m + 1)
+    above_start m la lb h =
+        let s = trying_start table a b r in
+        let up : NoRaces (events table) a b (m + 1) = λ z q k. no-witness (events table) a z (λ c. let o = c.lower in let i = h (omega arith) in omega arith) in
+        record { trying = record { given = s.given; same = s.same; above = omega arith; tried = up }; first = trying_first; lower = omega arith }
 
 module _ {table : Table} {a b : ℕ} {list₀ list : List ℕ} {y : ℕ} (p : Trying table a b list₀ list y) where
   module _ (n : ℕ) (en : n ≡ length (events table)) where
     pub higher_fits : y ≤ n → Fits w16 y
     higher_fits h = let s = table.links.good.size in record { fits = omega arith }
-
-    pub trying_lower : y ≤ n → Lower (events table) a y
-    trying_lower h = let l = p.lower in record { first = p.first; second = record { positive = omega arith; bounded = omega arith }; lower = l }
 
     beyond : (z : ℕ) → n < z → witness_of (events table) a z ≡ none
     beyond z h = no-witness (events table) a z (λ c. let b = c.second.bounded in omega arith)
@@ -189,8 +189,6 @@ module _ {table : Table} {a b : ℕ} {list₀ list : List ℕ} {y : ℕ} (p : Tr
         let l : list' ≡ list = rw w at s.wrote in record {
           given = p.given;
           same = same (l ∙ p.same.is);
-          first = p.first;
-          lower = let h = p.lower in omega arith;
           above = let h = p.above in omega arith;
           tried = λ z l m. go z l w (dec_lt z y) m;
         }
@@ -198,6 +196,15 @@ module _ {table : Table} {a b : ℕ} {list₀ list : List ℕ} {y : ℕ} (p : Tr
         go : (z : ℕ) → b < z → witness_of (events table) a y ≡ none → Dec (z < y) → z < y + 1 → witness_of (events table) a z ≡ none
         go z l w (yes q) m = p.tried z l q
         go z l w (no q) m = let d : z ≡ y = omega arith in rw d w
+
+module _ {table : Table} {a b : ℕ} {list₀ list : List ℕ} {y : ℕ} (p : TryingAbove table a b list₀ list y) where
+  module _ (n : ℕ) (en : n ≡ length (events table)) where
+    pub trying_lower : y ≤ n → Lower (events table) a y
+    trying_lower h = let l = p.lower in record { first = p.first; second = record { positive = omega arith; bounded = omega arith }; lower = l }
+
+  module _ {list' : List ℕ} (x : RustOption ℕ) (s : Shows (witness_of (events table) a y) list list' x) where
+    pub above_on : x ≡ None → TryingAbove table a b list₀ list' (y + 1)
+    above_on e = record { trying = trying_on p.trying x s e; first = p.first; lower = let h = p.lower in omega arith }
 
 -- ---- the lower events, one after the other
 
